@@ -9,6 +9,7 @@ if TYPE_CHECKING:
     from amctl.intents import Intent, IntentFilter
     from amctl.results import Advanced, Choose
 
+__version__ = "0.1.0"
 __all__ = ["Advanced", "AmctlError", "App", "Choose", "Device", "DeviceFile", "Intent", "IntentFilter", "Refusal"]
 
 # Each is imported when it is first asked for: the conversion of apps, which is in this package too, needs no other package.

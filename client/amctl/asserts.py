@@ -1,24 +1,24 @@
 """Assertions on a device, whose failure says of each component why an intent reaches it or doesn't."""
 from typing import NoReturn
 
-from amctl import show, words
+from amctl import show, words, words_python
 from amctl.device import App, Refusal
 from amctl.devicefile import Kind, whole_class
-from amctl.intents import Intent
+from amctl.intents import Intent, asked_of
 from amctl.results import Account, Choose, Placed, Sent, To
 
 
 def opened(app: App, intent: Intent | str, component: str, *, source: int | None = None) -> Placed:
     """Starts the intent as the app, and asserts that this activity is opened. A start without a source gets NEW_TASK."""
     __tracebackhide__ = True
-    asked = _intent(intent) if source is not None else _intent(intent).with_flag("NEW_TASK")
+    asked = asked_of(intent) if source is not None else asked_of(intent).with_flag("NEW_TASK")
     wanted = _whole(component)
     try:
         found = app.start(asked, source=source)
     except Refusal as refused:
         _fail(app, "activity", asked, words.not_opened(app.package, wanted, refused.sentence))
     if isinstance(found, Choose):
-        _fail(app, "activity", asked, words.not_opened(app.package, wanted, words.choice(found)))
+        _fail(app, "activity", asked, words.not_opened(app.package, wanted, words_python.in_python(words.choice(found))))
     got = app.device.component_of(found)
     if got != wanted:
         _fail(app, "activity", asked, words.opened_other(app.package, wanted, got))
@@ -28,7 +28,7 @@ def opened(app: App, intent: Intent | str, component: str, *, source: int | None
 def received(app: App, intent: Intent | str, to: To, *, ordered: bool = False, permission: str | None = None) -> Sent:
     """Broadcasts the intent as the app, and asserts that this receiver gets it: a component, or the number of a registered one."""
     __tracebackhide__ = True
-    asked, wanted = _intent(intent), _whole(to)
+    asked, wanted = asked_of(intent), _whole(to)
     try:
         sent = app.send(asked, ordered=ordered, permission=permission)
     except Refusal as refused:
@@ -43,7 +43,7 @@ def not_reached(
 ) -> Account:
     """Asserts that an intent of the app wouldn't reach a component, and by which rule: a verdict of `explain`, what narrows, or a reason."""
     __tracebackhide__ = True
-    asked, unwanted = _intent(intent), _whole(to)
+    asked, unwanted = asked_of(intent), _whole(to)
     sort = kind or _kind_of(app, unwanted)
     found = next((it for it in app.explain(sort, asked, permission=permission) if it.to == unwanted), None)
     if found is None:
@@ -68,11 +68,8 @@ def _fail(app: App, kind: Kind, intent: Intent, sentence: str, permission: str |
         # what can't be explained was refused before for the same reason, which the sentence has
         accounts = ()
     rows = show.account_rows(accounts, words.About(app.package, kind, intent, app.device.file))
-    raise AssertionError("\n".join([sentence, f"intent: {words.intent(intent)}", *show.account_lines(rows)]))
-
-
-def _intent(intent: Intent | str) -> Intent:
-    return Intent.of(intent) if isinstance(intent, str) else intent
+    advised = [(name, says, words_python.in_python(change)) for name, says, change in rows]
+    raise AssertionError("\n".join([sentence, f"intent: {words_python.intent(intent)}", *show.account_lines(advised)]))
 
 
 def _whole(to: To) -> To:

@@ -11,11 +11,13 @@ from typing import List, Optional
 import click
 import typer
 
-from amctl import results, show, words
+from amctl import __version__, results, show, words, words_reasons
 from amctl.device import Device, Refusal
 from amctl.devicefile import Kind, text_of
 from amctl.errors import AmctlError, BadWords
-from amctl.options import Asking, IntentWords, option, with_groups
+from amctl.find import find_am, is_unproved
+from amctl.near import nearest as nearest_of
+from amctl.options import CA, USER, Asking, IntentWords, option, with_groups
 from amctl.results import Choose
 
 NO_COMMAND = re.compile(r"No such command '(.*)'")
@@ -30,7 +32,6 @@ app = typer.Typer(
     no_args_is_help=True,
     pretty_exceptions_enable=False,
     context_settings={"max_content_width": 120},
-    help="Asks `am` which app of a simulated Android device gets an intent.",
 )
 
 
@@ -44,27 +45,61 @@ class Kinds(str, Enum):
         return self.value
 
 
+def _version(is_asked: bool) -> None:
+    """Says which client this is and which `am` it uses, and ends."""
+    if is_asked:
+        print(f"amctl {__version__}")
+        am = find_am()
+        print(words.program(str(am), is_unproved(am)))
+        raise typer.Exit()
+
+
+@app.callback()
+def every_command(
+    _: bool = option(False, "--version", callback=_version, is_eager=True, help="Shows the version of this client, and which am it uses.")
+) -> None:
+    """Asks `am` which app of a simulated Android device gets an intent."""
+
+
+class Readers(str, Enum):
+    androguard = "androguard"
+    aapt2 = "aapt2"
+
+
 KIND = option(Kinds.activity, "--kind", help="What is meant: activity (if left out), service, or receiver of a broadcast.")
 OF = option(None, "--of", metavar="PACKAGE", help="Shows the components of this package alone.")
+BASELINE = option(None, "--baseline", metavar="FILE", help="The JSON of an earlier run: only what is new is told.")
+FORMAT = option("text", "--format", metavar="FORMAT", help="text, json, sarif or junit; text if left out.")
 RECEIVER_PERMISSION = option(None, "--receiver-permission", metavar="PERMISSION", help="Receivers must hold it.")
 
 
 @app.command(epilog="Example: amctl why --device device.toml --as com.browser https://www.photos.example/album/cats")
 @with_groups
 def why(
-    intent: IntentWords, asking: Asking, kind: Kinds = KIND, of: Optional[str] = OF, receiver_permission: Optional[str] = RECEIVER_PERMISSION
+    intent: IntentWords,
+    asking: Asking,
+    kind: Kinds = KIND,
+    of: Optional[str] = OF,
+    receiver_permission: Optional[str] = RECEIVER_PERMISSION,
+    near: bool = option(False, "--near", help="Shows what is reached and the ten nearest misses, and counts the others."),
 ) -> None:
     """Says of each component whether an intent would reach it, and if not, why, and what would change it."""
     asked = intent.intent()
     with asking.open() as device:
         caller = asking.caller(device)
         found = caller.explain(kind.kind, asked, permission=receiver_permission, of=of)
+    rest: Mapping[str, int] = {}
+    if near:
+        nearest = nearest_of(found, kind.kind, asked, device.file)
+        found, rest = nearest.accounts, nearest.rest
     if asking.json:
-        show.show_json({"accounts": results.to_json(found)})
+        show.show_json({"accounts": results.to_json(found), **({"rest": rest} if near else {})})
     elif not found:
         print(words.none_of_kind(kind.kind, of))
     else:
         show.show_accounts(show.account_rows(found, words.About(caller.package, kind.kind, asked, device.file)))
+        if rest:
+            print(words_reasons.rest(rest))
 
 
 @app.command(epilog="Example: amctl start --as com.browser https://www.photos.example/album/cats")
@@ -267,25 +302,43 @@ def visible(intent: IntentWords, asking: Asking, kind: Kinds = KIND) -> None:
 def lint(
     device: Path = typer.Argument(..., metavar="DEVICE", help="The device file."),
     store: Optional[Path] = option(None, "--store", metavar="FILE", help="Looks at what is kept there too."),
-    json: bool = option(False, "--json", help="The findings as JSON."),
+    baseline: Optional[Path] = BASELINE,
+    severity: str = option("note", "--severity", metavar="SEVERITY", help="Status 1 from this one on: note, warning or error; note if left out."),
+    format: str = FORMAT,
+    json: bool = option(False, "--json", help="The same as --format json."),
     am: Optional[Path] = option(None, "--am", metavar="PROGRAM", help="The program `am`. Else AM, PATH, or the repository's."),
 ) -> int:
-    """Finds in a device file what its writer surely didn't mean. Status 1 if there is something."""
+    """Finds likely mistakes in a device file. Status 1 if there is something."""
     from amctl import lint as linter
 
-    return linter.main(device, store=store, json=json, am=am)
+    return linter.main(device, store=store, severity=severity, form="json" if json else format, baseline=baseline, am=am)
+
+
+@app.command(epilog="Example: amctl convert base.apk > device.toml")
+def convert(
+    inputs: List[str] = typer.Argument(..., metavar="INPUT..", help="APKs, Android manifests, and folders of them."),
+    keys: Optional[str] = option(None, "--keys", metavar="FILE", help="Each line has a package and its key; `android` has the system's."),
+    grant_all: bool = option(False, "--grant-all", help="Grants each package the permissions that it asks for."),
+    facts: Optional[str] = option(None, "--facts", metavar="FILE", help="Gets what `check` needs of each package beside the device file."),
+    strict: bool = option(False, "--strict", help="The status is 1 if something is left out."),
+    reader: Optional[Readers] = option(None, "--reader", help="What reads binary manifests: androguard, or else aapt2."),
+) -> int:
+    """Makes one device file of APKs and Android manifests, and says on standard error what it leaves out."""
+    from amctl.apps.command import Asked, convert
+
+    return convert(Asked(inputs, keys, grant_all, facts, strict, reader and reader.value))
 
 
 @app.command(epilog="Example: amctl check gallery.toml --on device.toml")
 def check(
     app: Path = typer.Argument(..., metavar="APP", help="The app: a manifest as a TOML file, an APK or an XML manifest."),
-    on: Path = option(..., "--on", metavar="DEVICE", help="The device file; the app is installed on a copy of that device."),
+    on: Optional[Path] = option(None, "--on", metavar="DEVICE", help="The device file; the app is installed on a copy of that device. Else it is alone."),
     facts: Optional[Path] = option(None, "--facts", metavar="FILE", help="What the converter wrote beside the device file."),
     assetlinks: Optional[Path] = option(None, "--assetlinks", metavar="FILE", help="Statements of Digital Asset Links: which hosts would be approved."),
     history: Optional[Path] = option(None, "--history", metavar="FILE", help="Stored calls, one a line: those of the app are looked at."),
-    baseline: Optional[Path] = option(None, "--baseline", metavar="FILE", help="The JSON of an earlier run: only what is new is told."),
+    baseline: Optional[Path] = BASELINE,
     severity: str = option("error", "--severity", metavar="SEVERITY", help="Status 1 from this one on: note, warning or error; error if left out."),
-    format: str = option("text", "--format", metavar="FORMAT", help="text, json, sarif or junit; text if left out."),
+    format: str = FORMAT,
     am: Optional[Path] = option(None, "--am", metavar="PROGRAM", help="The program `am`. Else AM, PATH, or the repository's."),
 ) -> int:
     """Says before an app is published what it takes, opens and gives away on a device."""
@@ -317,7 +370,7 @@ def serve(
     port: Optional[int] = option(None, "--port", min=1, max=65535, help="A free one is taken if left out."),
     workers: int = option(4, "--workers", min=1, max=64, help="How many requests are answered at once; 4 if left out."),
     store: Optional[Path] = option(None, "--store", metavar="FILE", help="Keeps what is installed, granted and linked."),
-    connections: Optional[int] = option(None, "--connections", min=1, max=1_000_000, help="Each worker ends once so many have ended at it."),
+    connections: Optional[int] = option(None, "--connections", min=1, max=1_000_000, help="Each worker takes so many, and ends once they have ended."),
     at: Optional[int] = option(None, "--at", metavar="MOMENT", min=0, max=LAST_MOMENT, help="The clock stands at this moment, in milliseconds."),
     am: Optional[Path] = option(None, "--am", metavar="PROGRAM", help="The program `am`. Else AM, PATH, or the repository's."),
 ) -> int:
@@ -331,6 +384,8 @@ def serve(
 def ui(
     device: Optional[Path] = option(None, "--device", metavar="FILE", help="The device file: a session of its own, or with --url the server's."),
     url: Optional[str] = option(None, "--url", metavar="URL", help="A server, such as http://127.0.0.1:8080."),
+    user: Optional[str] = USER,
+    ca: Optional[Path] = CA,
     port: Optional[int] = option(None, "--port", min=1, max=65535, help="The page's port; a free one is taken if left out."),
     open_: bool = option(False, "--open", help="Opens the page in a browser."),
     am: Optional[Path] = option(None, "--am", metavar="PROGRAM", help="The program `am`. Else AM, PATH, or the repository's."),
@@ -339,7 +394,39 @@ def ui(
     from amctl.ui.run import run
     from amctl.where import Where
 
-    return run(Where(device, url, am=am).or_environment(), port, open_)
+    return run(Where(device, url, am=am, user=user, ca=ca).or_environment(), port, open_)
+
+
+@app.command("from-phone", epilog="Example: amctl from-phone --serial emulator-5554 --packages com.browser com.photos > device.toml")
+def from_phone(
+    more: Optional[List[str]] = typer.Argument(None, metavar="[PACKAGES..]", show_default=False, help="More packages behind those of --packages."),
+    serial: Optional[str] = option(None, "--serial", metavar="SERIAL", help="The phone, as `adb devices` names it; the only one if left out."),
+    packages: List[str] = option([], "--packages", metavar="PACKAGE", help="Which packages; all, and at most 256, if left out."),
+    adb: Optional[Path] = option(None, "--adb", metavar="PROGRAM", help="The real adb. Else the one on PATH."),
+    kept: Optional[Path] = option(None, "--kept", metavar="FOLDER", help="Where a run that is interrupted goes on. Else a folder among your cached files."),
+) -> int:
+    """Writes a device file of a real phone's apps to standard output. Status 1 if an app can't be read."""
+    from amctl.phone import command
+
+    return command.main(command.Asked(serial, (*packages, *(more or ())), adb, kept))
+
+
+@app.command(epilog="Example: amctl compare --suite everyday --serial emulator-5554 --device device.toml")
+def compare(
+    file: Optional[Path] = typer.Argument(None, metavar="[SUITE]", show_default=False, help="A suite: a file of adb's lines, or of questions in TOML."),
+    suite: Optional[str] = option(None, "--suite", metavar="NAME", help="A suite of this client's: everyday, a hundred questions made of the device file."),
+    serial: Optional[str] = option(None, "--serial", metavar="SERIAL", help="The phone, as `adb devices` names it; the only one if left out."),
+    device: Path = option(..., "--device", metavar="FILE", help="The phone's device file, as from-phone writes it."),
+    format: str = option("text", "--format", metavar="FORMAT", help="text, json or junit; text if left out."),
+    yes: bool = option(False, "--yes", help="Goes on without asking before the first change to the phone."),
+    list_: bool = option(False, "--list", help="Prints the suite as adb's lines, and asks nobody."),
+    adb: Optional[Path] = option(None, "--adb", metavar="PROGRAM", help="The real adb. Else the one on PATH."),
+    am: Optional[Path] = option(None, "--am", metavar="PROGRAM", help="The program `am`. Else AM, PATH, or the repository's."),
+) -> int:
+    """Asks a real phone and `am` the same, and says where they differ. Status 1 if they do."""
+    from amctl.compare import command
+
+    return command.main(command.Asked(device, file, suite, serial, adb, am, format, yes), is_listed=list_)
 
 
 @app.command(
@@ -363,7 +450,7 @@ def main(argv: Sequence[str] | None = None) -> int:
         sys.stdout.flush()
         return status if isinstance(status, int) else 0
     except Refusal as refused:
-        return _failed(str(refused), REFUSED)
+        return _failed(refused.told, REFUSED)
     except AmctlError as wrong:
         return _failed(str(wrong), WRONG_WORDS)
     except click.UsageError as usage:

@@ -6,14 +6,15 @@ from pathlib import Path
 from types import TracebackType
 from typing import Any, Literal
 
-from amctl import results, words
+from amctl import results, words, words_server
 from amctl.devicefile import SYSTEM, DeviceFile, Kind
 from amctl.errors import AmctlError, BadWords, DeviceFault, Ended
 from amctl.faults import REFUSED, ending_text
 from amctl.find import find_am
-from amctl.intents import Extra, Intent, IntentFilter
+from amctl.intents import Extra, Intent, IntentFilter, asked_of, texts_of
 from amctl.results import Account, Advanced, Choose, Entry, Item, Placed, Sent, Service, Started, Status, Task
 from amctl.transport import DONE, Answer, Ask, Pipes, Transport, Web, body_of, run_visible
+from amctl.words_python import in_python
 
 PendingKind = Literal["activity", "broadcast", "service"]
 ROOT = "root"
@@ -26,15 +27,20 @@ class Refusal(AmctlError):
     """The device refused a request by a rule; `name` is what the rule names, such as a permission."""
 
     def __init__(self, rule: str, name: str | None, status: int, sentence: str) -> None:
-        super().__init__(sentence)
+        super().__init__(in_python(sentence))
         self.rule = rule
         self.name = name
         self.status = status
-        self.sentence = sentence
+        self.sentence = str(self)
+        self._told = sentence
+
+    @property
+    def told(self) -> str:
+        return self._told
 
 
 class Device:
-    """A simulated device: a session of its own on pipes (`open`), or a server's (`connect`)."""
+    """A simulated device: a session of its own on pipes (`open`), or a server's (`connect`). Threads may share it."""
 
     def __init__(self, transport: Transport, file: DeviceFile, *, am: str | Path | None = None, store: Path | None = None) -> None:
         self.file = file
@@ -55,9 +61,11 @@ class Device:
         return device
 
     @classmethod
-    def connect(cls, url: str, device_file: str | Path) -> "Device":
-        """A server's device. The device file is the server's: it has the keys of the callers."""
-        return cls(Web(url), DeviceFile.read(device_file))
+    def connect(cls, url: str, device_file: str | Path, *, user: str | None = None, ca: str | Path | None = None) -> "Device":
+        """A server's device. The device file is the server's: it has the keys of the callers.
+
+        `user` is `NAME:PASSWORD`, and `ca` a file with the certificate of the authority to trust; else AMCTL_USER and AMCTL_CA."""
+        return cls(Web(url, user=user, ca=ca), DeviceFile.read(device_file))
 
     def __enter__(self) -> "Device":
         return self
@@ -95,12 +103,12 @@ class Device:
         return App(self, package, key)
 
     def advance(self, by: int = 0) -> Advanced:
-        """Moves the device's moment that many milliseconds ahead, as the system; by 0 only asks what is due next."""
+        """Moves the moment that many milliseconds ahead, as the system; by 0, no further than any call does."""
         return self.system.advance(by)
 
-    def visible(self, package: str, kind: Kind, intent: Intent, *, default_only: bool = False) -> tuple[str, ...]:
+    def visible(self, package: str, kind: Kind, intent: Intent | str, *, default_only: bool = False) -> tuple[str, ...]:
         """The components of a query that a package sees by the `queries` of its manifest, as the device file has them."""
-        query = body_of(_given(kind=kind, intent=intent.to_json(), defaultOnly=default_only or None))
+        query = body_of(_given(kind=kind, intent=asked_of(intent).to_json(), defaultOnly=default_only or None))
         try:
             return results.components_of(run_visible(find_am(self._am), self.file.path, package, query))
         except Ended as ended:
@@ -157,7 +165,10 @@ class Device:
 
 
 class App:
-    """A caller on a device: an app, the system or the root. Its key is never shown."""
+    """A caller on a device: an app, the system or the root. Its key is never shown.
+
+    An intent is an `Intent`, or a text: a URI to view, a component `com.x/.Y`, or a package.
+    """
 
     def __init__(self, device: Device, package: str, key: str) -> None:
         self.device = device
@@ -167,20 +178,23 @@ class App:
     def __repr__(self) -> str:
         return f"App({self.package!r})"
 
-    def query(self, kind: Kind, intent: Intent, *, default_only: bool = False) -> tuple[str, ...]:
+    def query(self, kind: Kind, intent: Intent | str, *, default_only: bool = False) -> tuple[str, ...]:
         """The components that an intent finds, `package/class`, by falling priority."""
-        return results.components_of(self._post("/v1/query", kind=kind, intent=intent.to_json(), defaultOnly=default_only or None))
+        return results.components_of(self._post("/v1/query", kind=kind, intent=asked_of(intent).to_json(), defaultOnly=default_only or None))
 
     def explain(
-        self, kind: Kind, intent: Intent, *, as_: str | None = None, permission: str | None = None, of: str | None = None
+        self, kind: Kind, intent: Intent | str, *, as_: str | None = None, permission: str | None = None, of: str | None = None
     ) -> tuple[Account, ...]:
         """Whom an intent would reach, and why not the others. The system may ask for another caller (`as_`)."""
-        fields = {"kind": kind, "intent": intent.to_json(), "as": as_, "permission": permission, "of": of}
+        fields = {"kind": kind, "intent": asked_of(intent).to_json(), "as": as_, "permission": permission, "of": of}
         return results.accounts_of(self._post("/v1/explain", **fields))
 
-    def start(self, intent: Intent, *, source: int | None = None) -> Placed | Choose:
-        """Starts an activity; without a source instance the intent needs the flag NEW_TASK."""
-        return results.placed_of(self._post("/v1/start", intent=intent.to_json(), source=source))
+    def start(self, intent: Intent | str, *, source: int | None = None) -> Placed | Choose:
+        """Starts an activity. Without a source instance an `Intent` needs the flag NEW_TASK; a text gets it."""
+        asked = asked_of(intent)
+        if isinstance(intent, str) and source is None:
+            asked = asked.with_flag("NEW_TASK")
+        return results.placed_of(self._post("/v1/start", intent=asked.to_json(), source=source))
 
     def finish_activity(self, instance: int) -> None:
         self._post("/v1/finish_activity", instance=instance)
@@ -193,8 +207,8 @@ class App:
         """The caller's tasks from front to back, or all for the system."""
         return results.tasks_of(self._get("/v1/tasks"))
 
-    def start_service(self, intent: Intent) -> Started:
-        return results.started_of(self._post("/v1/start_service", intent=intent.to_json()))
+    def start_service(self, intent: Intent | str) -> Started:
+        return results.started_of(self._post("/v1/start_service", intent=asked_of(intent).to_json()))
 
     def stop_service(self, component: str) -> None:
         self._post("/v1/stop_service", component=component)
@@ -204,7 +218,7 @@ class App:
 
     def send(
         self,
-        intent: Intent,
+        intent: Intent | str,
         *,
         permission: str | None = None,
         ordered: bool = False,
@@ -215,7 +229,7 @@ class App:
     ) -> Sent:
         """Broadcasts an intent. The last four belong to an ordered broadcast."""
         outcome = {"code": code, "data": data, "extras": extras, "result": result or None}
-        sent = self._post("/v1/send", intent=intent.to_json(), permission=permission, ordered=ordered or None, **outcome)
+        sent = self._post("/v1/send", intent=asked_of(intent).to_json(), permission=permission, ordered=ordered or None, **outcome)
         return results.sent_of(sent)
 
     def register(self, filter: IntentFilter, *, permission: str | None = None) -> int:
@@ -241,13 +255,14 @@ class App:
         """Finishes a delivery, or takes a result. With a code it sets the outcome of an ordered delivery."""
         self._post("/v1/finish", delivery=delivery, abort=abort or None, code=code, data=data, extras=extras)
 
-    def pending_get(self, kind: PendingKind, code: int, intent: Intent, flags: Sequence[str]) -> int | None:
+    def pending_get(self, kind: PendingKind, code: int, intent: Intent | str, flags: Sequence[str]) -> int | None:
         """The token of a pending intent; None if there is none and the flags ask to make none."""
-        return results.token_of(self._post("/v1/pending/get", kind=kind, code=code, intent=intent.to_json(), flags=list(flags)))
+        fields = {"kind": kind, "code": code, "intent": asked_of(intent).to_json(), "flags": list(texts_of("flags", flags))}
+        return results.token_of(self._post("/v1/pending/get", **fields))
 
-    def pending_send(self, token: int, *, fill: Intent | None = None) -> Placed | Choose | Started | Sent:
+    def pending_send(self, token: int, *, fill: Intent | str | None = None) -> Placed | Choose | Started | Sent:
         """Does what a token is for, as its creator."""
-        return results.done_of(self._post("/v1/pending/send", token=token, fill=None if fill is None else fill.to_json()))
+        return results.done_of(self._post("/v1/pending/send", token=token, fill=None if fill is None else asked_of(fill).to_json()))
 
     def pending_cancel(self, token: int) -> None:
         self._post("/v1/pending/cancel", token=token)
@@ -282,7 +297,7 @@ class App:
         self._post("/v1/tick")
 
     def advance(self, by: int = 0) -> Advanced:
-        """Moves the device's moment that many milliseconds ahead; by 0 only asks what is due next."""
+        """Moves the moment that many milliseconds ahead; by 0, no further than any call does."""
         return results.advanced_of(self._post("/v1/advance", by=by))
 
     def history(self, from_: int = 0) -> tuple[Entry, ...]:
@@ -305,7 +320,8 @@ class App:
             return answer.body
         rule, name = str(answer.body.get("error")), answer.body.get("name")
         asked = words.Asked(self.package, ask.path, fields)
-        raise Refusal(rule, name, answer.status, words.refusal(rule, name, asked).text)
+        sentence = words_server.FRONT.get(rule) or words.refusal(rule, name, asked).text
+        raise Refusal(rule, name, answer.status, sentence)
 
 
 def _given(**fields: Any) -> dict[str, Any]:

@@ -148,7 +148,11 @@ class DeviceFile:
 
     def shown(self, place: Place | None) -> str:
         """The line of a place, with any key in it hidden."""
-        return "" if place is None else shown_line(self.text, place.line)
+        return "" if place is None else _hidden_line(self._lines, place.line, KEY_VALUE)
+
+    @functools.cached_property
+    def _lines(self) -> list[str]:
+        return self.text.split("\n")
 
     def key_of(self, name: str) -> str:
         """The key of a package: the file's, or the one that this client gives to a package that it installs."""
@@ -187,7 +191,10 @@ class DeviceFile:
 
 def shown_line(text: str, line: int, hidden: re.Pattern[str] = KEY_VALUE) -> str:
     """A line, with keys hidden."""
-    lines = text.split("\n")
+    return _hidden_line(text.split("\n"), line, hidden)
+
+
+def _hidden_line(lines: list[str], line: int, hidden: re.Pattern[str]) -> str:
     return hidden.sub(r"\1…", lines[line - 1].rstrip("\r")) if 0 < line <= len(lines) else ""
 
 

@@ -1,8 +1,24 @@
 """What can go wrong apart from the device's own refusals; each message says what to do."""
 
 
+from typing import Any
+
+
 class AmctlError(Exception):
-    """What a caller of this package catches to catch all its errors."""
+    """What a caller of this package catches to catch all its errors. One goes from a process to another as it is."""
+
+    @property
+    def told(self) -> str:
+        """The message as a command says it."""
+        return str(self)
+
+    def __reduce__(self) -> tuple[Any, ...]:
+        # those with more than a sentence can't be made of their sentence alone
+        return _made_again, (type(self), self.args), self.__dict__
+
+
+def _made_again(kind: type[AmctlError], sentence: tuple[Any, ...]) -> AmctlError:
+    return kind.__new__(kind, *sentence)
 
 
 class NoProgram(AmctlError):

@@ -11,6 +11,7 @@ from typing import Any, List, Optional, TypeVar
 import typer
 
 from amctl import words
+from amctl.address import CA_VARIABLE, USER_VARIABLE
 from amctl.device import App, Device
 from amctl.errors import BadWords
 from amctl.intents import Extra, Intent
@@ -27,6 +28,10 @@ def option(default: Any, *names: str, help: str, metavar: str | None = None, **o
     return typer.Option(default, *names, help=help, metavar=metavar, show_default=False, **others)
 
 
+USER = option(None, "--user", metavar="NAME:PASSWORD", help=f"Who asks a server that wants a password. Others may see it here, but not in {USER_VARIABLE}.")
+CA = option(None, "--ca", metavar="FILE", help=f"The certificate of the authority that an https server is trusted by. Else {CA_VARIABLE}, or the machine's.")
+
+
 @dataclass(frozen=True)
 class Asking:
     """The device that is asked, the caller, and how the answer is written."""
@@ -35,13 +40,15 @@ class Asking:
         None, "--device", metavar="FILE", help=f"The device file: a session of its own, or with --url the server's. Else {DEVICE_VARIABLE}, or ./device.toml."
     )
     url: Optional[str] = option(None, "--url", metavar="URL", help=f"A server, such as http://127.0.0.1:8080. Else {URL_VARIABLE}.")
+    user: Optional[str] = USER
+    ca: Optional[Path] = CA
     store: Optional[Path] = option(None, "--store", metavar="FILE", help="Keeps what a session of its own installs, grants and links.")
     as_: Optional[str] = option(None, "--as", metavar="PACKAGE", help="The app that asks; the system if left out.")
     json: bool = option(False, "--json", help="The answer as `am` writes it.")
     am: Optional[Path] = option(None, "--am", metavar="PROGRAM", help="The program `am`. Else AM, PATH, or the repository's.")
 
     def where(self) -> Where:
-        return Where(self.device, self.url, self.store, self.am).or_environment()
+        return Where(self.device, self.url, self.store, self.am, self.user, self.ca).or_environment()
 
     def open(self) -> Device:
         return self.where().open()

@@ -101,7 +101,7 @@ class OrderedDelivery:
     code: int
     data: str | None
     delivery: int
-    extras: Mapping[str, Extra]
+    extras: Mapping[str, Extra] = dataclasses.field(hash=False)
     intent: Intent
     to: To
     ordered: ClassVar[bool] = True
@@ -114,7 +114,7 @@ class Result:
     code: int
     data: str | None
     delivery: int
-    extras: Mapping[str, Extra]
+    extras: Mapping[str, Extra] = dataclasses.field(hash=False)
     result: int
 
 
@@ -129,7 +129,7 @@ class Entry:
     desk: int
     kept: bool
     now: int
-    request: Mapping[str, Any] = dataclasses.field(repr=False)
+    request: Mapping[str, Any] = dataclasses.field(repr=False, hash=False)
     route: str
     uid: int
     weight: int
@@ -148,6 +148,13 @@ class Status:
     history: int
     moment: int
     packages: int
+
+
+def _made(kind: type[Found], fields: Mapping[str, Any]) -> Found:
+    """A result of its fields; a field that this client doesn't know is left out."""
+    # a dataclass has the names of its fields there
+    known: tuple[str, ...] = getattr(kind, "__match_args__")
+    return kind(**{name: value for name, value in fields.items() if name in known})
 
 
 def _reader(read: Callable[[Mapping[str, Any]], Found]) -> Callable[[Mapping[str, Any]], Found]:
@@ -195,17 +202,17 @@ def uid_of(body: Mapping[str, Any]) -> int:
 
 @_reader
 def started_of(body: Mapping[str, Any]) -> Started:
-    return Started(**body)
+    return _made(Started, body)
 
 
 @_reader
 def advanced_of(body: Mapping[str, Any]) -> Advanced:
-    return Advanced(**body)
+    return _made(Advanced, body)
 
 
 @_reader
 def status_of(body: Mapping[str, Any]) -> Status:
-    return Status(**body)
+    return _made(Status, body)
 
 
 @_reader
@@ -214,14 +221,12 @@ def accounts_of(body: Mapping[str, Any]) -> tuple[Account, ...]:
 
 
 def _account(fields: Mapping[str, Any]) -> Account:
-    listed = {"reasons": tuple(fields["reasons"])} if "reasons" in fields else {}
-    given: dict[str, Any] = {**fields, **listed}
-    return Account(**given)
+    return _made(Account, {**fields, "reasons": tuple(fields["reasons"])} if "reasons" in fields else fields)
 
 
 @_reader
 def placed_of(body: Mapping[str, Any]) -> Placed | Choose:
-    return Choose(tuple(body["choose"])) if "choose" in body else Placed(**body)
+    return Choose(tuple(body["choose"])) if "choose" in body else _made(Placed, body)
 
 
 @_reader
@@ -229,22 +234,22 @@ def done_of(body: Mapping[str, Any]) -> Placed | Choose | Started | Sent:
     """What a pending intent did: the reply of a start, a service or a broadcast."""
     if "broadcast" in body:
         return sent_of(body)
-    return Started(**body) if "starts" in body else placed_of(body)
+    return _made(Started, body) if "starts" in body else placed_of(body)
 
 
 @_reader
 def tasks_of(body: Mapping[str, Any]) -> tuple[Task, ...]:
-    return tuple(Task(tuple(Instance(**_intent(it)) for it in task["instances"]), task["task"]) for task in body["tasks"])
+    return tuple(Task(tuple(_made(Instance, _intent(it)) for it in task["instances"]), task["task"]) for task in body["tasks"])
 
 
 @_reader
 def services_of(body: Mapping[str, Any]) -> tuple[Service, ...]:
-    return tuple(Service(**_intent(it)) for it in body["services"])
+    return tuple(_made(Service, _intent(it)) for it in body["services"])
 
 
 @_reader
 def sent_of(body: Mapping[str, Any]) -> Sent:
-    return Sent(body["broadcast"], tuple(Receiver(**it) for it in body["receivers"]))
+    return Sent(body["broadcast"], tuple(_made(Receiver, it) for it in body["receivers"]))
 
 
 @_reader
@@ -254,14 +259,13 @@ def items_of(body: Mapping[str, Any]) -> tuple[Item, ...]:
 
 @_reader
 def entries_of(body: Mapping[str, Any]) -> tuple[Entry, ...]:
-    return tuple(Entry(**it) for it in body["entries"])
+    return tuple(_made(Entry, it) for it in body["entries"])
 
 
 def _item(fields: Mapping[str, Any]) -> Item:
     if "result" in fields:
-        return Result(**fields)
-    given = _intent({name: value for name, value in fields.items() if name != "ordered"})
-    return OrderedDelivery(**given) if fields["ordered"] else Delivery(**given)
+        return _made(Result, fields)
+    return _made(OrderedDelivery, _intent(fields)) if fields["ordered"] else _made(Delivery, _intent(fields))
 
 
 def _intent(fields: Mapping[str, Any]) -> dict[str, Any]:

@@ -11,6 +11,7 @@ from pathlib import Path
 from types import FrameType
 
 from amctl import words, words_serve
+from amctl.children import ending_with_this_process
 from amctl.device import checked_store
 from amctl.devicefile import DeviceFile
 from amctl.errors import AmctlError, BadWords, NoProgram
@@ -74,8 +75,7 @@ def run(serving: Serving) -> int:
 
 
 def _served(serving: Serving, am: Path, port: int, file: DeviceFile) -> int:
-    with passing_signals_on() as passing:
-        program = _started(serving.words(am, port))
+    with passing_signals_on() as passing, _running(serving.words(am, port)) as program:
         passing.to = program
         listened = _wait_until_listening(program, port)
         if listened:
@@ -83,7 +83,21 @@ def _served(serving: Serving, am: Path, port: int, file: DeviceFile) -> int:
         printed, errors = program.communicate()
     if program.returncode == NETWORK_FAULT and not listened:
         raise PortTaken(words_serve.port_taken(port))
+    if program.returncode == NETWORK_FAULT:
+        raise AmctlError(words_serve.network_fault(port))
     return _end(program.returncode, printed.strip(), errors.strip(), passing.passed, file)
+
+
+@contextmanager
+def _running(words_of_am: list[str]) -> "Iterator[subprocess.Popen[str]]":
+    """The program, which runs no longer than what is done here, whatever goes wrong there."""
+    program = _started(words_of_am)
+    try:
+        yield program
+    finally:
+        if program.poll() is None:
+            program.kill()
+            program.wait()
 
 
 def _started(words_of_am: list[str]) -> "subprocess.Popen[str]":
@@ -97,6 +111,7 @@ def _started(words_of_am: list[str]) -> "subprocess.Popen[str]":
             text=True,
             start_new_session=True,
             umask=PRIVATE,
+            preexec_fn=ending_with_this_process(),
         )
     except OSError as fault:
         raise NoProgram(words.no_start(words_of_am[0], fault.strerror or str(fault))) from None
@@ -131,7 +146,9 @@ class Passing:
 @contextmanager
 def passing_signals_on() -> Iterator[Passing]:
     passing = Passing()
-    before = {number: signal.signal(number, passing) for number in PASSED_ON}
+    # who starts a server by `nohup` has it ignore a signal, and the program ignores it too
+    passed_on = [number for number in PASSED_ON if signal.getsignal(number) is not signal.SIG_IGN]
+    before = {number: signal.signal(number, passing) for number in passed_on}
     try:
         yield passing
     finally:

@@ -1,12 +1,15 @@
 """Every sentence that a person reads: verdicts, reasons, refusals, faults and endings, each with what would change it."""
+import difflib
 import re
 from collections.abc import Mapping, Sequence
 from dataclasses import dataclass, field
+from datetime import datetime, timezone
 from typing import TYPE_CHECKING, Any
-from urllib.parse import unquote, urlsplit
-
 from amctl.intents import Intent
 from amctl.results import Account, Advanced, Choose, Entry, Instance, Item, OrderedDelivery, Placed, Receiver, Result, Service, Started, To
+from amctl.words_reasons import change_of, reason, tests_passed
+from amctl.words_reasons import host_and_path as host_and_path
+from amctl.words_reasons import short as short
 
 if TYPE_CHECKING:
     # a device file's own messages are here too
@@ -217,20 +220,56 @@ FIELD_FORMS = {
 
 URI_FAULTS = {"1": "it has no scheme", "2": "its port isn't one", "3": "a `%` in its path has no two hexadecimal digits", "4": "its path isn't UTF-8"}
 MIME_FAULTS = {"1": "it has no slash", "2": "a part of it is empty", "3": "it has a blank, a control character or a second slash"}
+# moments from 1973 to the year 9999 are those of clocks, which begin in 1970
+CLOCKS, NO_DAYS = 10**11, 253_402_300_800_000
+INTENT_FLAGS = (
+    *("NEW_TASK", "MULTIPLE_TASK", "CLEAR_TASK", "CLEAR_TOP", "SINGLE_TOP", "REORDER_TO_FRONT"),
+    *("REGISTERED_ONLY", "FOREGROUND", "NO_ABORT", "INCLUDE_STOPPED"),
+)
+PENDING_FLAGS = ("ONE_SHOT", "NO_CREATE", "CANCEL_CURRENT", "UPDATE_CURRENT", "IMMUTABLE", "MUTABLE")
+FLAG_PREFIX = re.compile(r"FLAG_(?:ACTIVITY_|RECEIVER_)?")
+# how `am` names its rules, and begins its lines
+RULE = re.compile(r"[a-z]+(?:_[a-z]+)*")
+OURS = "am: "
 ASK_HELP = "see the fields of this request in docs/HTTP.md"
 
 
 def refusal(rule: str, name: str | None, asked: Asked) -> Sentence:
     """A refusal in words."""
     if rule == "bad_request":
-        return bad_request(name or "")
+        return (_wrong_flag(asked) if name == "wrong_kind flags" else None) or bad_request(name or "")
     if rule == "bad_manifest":
         found = fault(name or "")
         return Sentence(f"the manifest is refused: {found.says}", found.change)
     form = LIMITS.get(name or "", REFUSALS[rule]) if rule == "over_limit" else REFUSALS.get(rule)
     if form is None:
-        return Sentence(f"`am` refused this by a rule that this client doesn't know, {rule} {name or ''}".rstrip(), "use the client of the same version")
+        return _unknown_rule(rule, name)
     return _filled(form, asked.places(name))
+
+
+def _unknown_rule(rule: str, name: str | None) -> Sentence:
+    """Another version of `am` refuses by other rules, and another program by none."""
+    if not RULE.fullmatch(rule):
+        change = "check the port and the path of the URL, or start a server by `amctl serve device.toml`"
+        return Sentence(f"what answers isn't `am`: it refuses by {rule!r}", change)
+    said = f"`am` refused this by a rule that this client doesn't know, {rule} {name or ''}".rstrip()
+    return Sentence(said, "use the client of the same version, and check that what answers is `am`")
+
+
+def _wrong_flag(asked: Asked) -> Sentence | None:
+    """The first flag that isn't one, by its name."""
+    of_intent = ((it, INTENT_FLAGS) for it in asked.intent.get("flags") or ())
+    of_pending = ((it, PENDING_FLAGS) for it in asked.fields.get("flags") or ())
+    wrong, known = next(((it, known) for it, known in (*of_intent, *of_pending) if it not in known), (None, ()))
+    if wrong is None:
+        return None
+    bare = FLAG_PREFIX.sub("", str(wrong)).removesuffix("_PACKAGES")
+    near = difflib.get_close_matches(bare, known, 1, 0.75)
+    says = f"`{wrong}` isn't a flag that `am` takes"
+    if not near:
+        return Sentence(says, FIELD_FORMS["flags"])
+    prefix = ", since flags are named without FLAG_ACTIVITY_ or FLAG_RECEIVER_" if bare != wrong else ""
+    return Sentence(says, f"write {near[0]}{prefix}")
 
 
 def _filled(form: Sentence, places: Mapping[str, str]) -> Sentence:
@@ -276,7 +315,8 @@ def fault(name: str) -> Sentence:
     return _filled(form, {"last": last, "table": table, "name": of, "form": FORMS.get(key, "see docs/DEVICE.md for its form")})
 
 
-SESSION_ENDED, FILE_REFUSED, ROWS_REFUSED, QUERY_REFUSED = 1, 3, 10, 11
+SESSION_ENDED, WORDS_REFUSED = 1, 2
+FILE_REFUSED, ROWS_REFUSED, QUERY_REFUSED = 3, 10, 11
 CLOSED = Sentence("the session is closed", "open the device again")
 
 SESSION_ENDS = {
@@ -303,7 +343,10 @@ ENDINGS = {
 
 def ending(status: int, line: str) -> Sentence:
     """How the program ended, in words."""
-    said = line.removeprefix("am: ")
+    said = line.removeprefix(OURS)
+    if status in (SESSION_ENDED, WORDS_REFUSED) and line and not line.startswith(OURS):
+        said = f"the program isn't this project's `am`, and said {line.splitlines()[0]!r}"
+        return Sentence(said, "name the built `am` by --am or in the variable AM")
     _, _, named = said.partition(": ")
     if status == SESSION_ENDED:
         return SESSION_ENDS.get(named, Sentence(f"the session ended: {said}", "open the device again"))
@@ -347,20 +390,6 @@ VERDICTS = {
     "protected_action": Sentence("only the system and the root may broadcast {action}", "send as the system, or take it from `protected` in the device file"),
 }
 
-REASON_ORDER = ("action", "scheme", "host", "path", "type", "category")
-REASON_CHANGES = {
-    "action": "list the action in a filter of it, or ask by one that is listed",
-    "scheme": "give it a filter with this scheme in `data`, or ask by another URI",
-    "host": "give it a filter with this host in `data`, or ask by another URI",
-    "path": "give it a filter with this path in `data`, or ask by another URI",
-    "type": "give it a filter with this `mimeType` in `data`, or ask by another type",
-    "category": "list the category in a filter of it, or ask without it",
-}
-DEFAULT_CATEGORY = "android.intent.category.DEFAULT"
-PATH_KEYS = {"path": "", "pathPrefix": "begins with ", "pathSuffix": "ends with ", "pathPattern": "is like "}
-SHORT = re.compile(r"^android\.intent\.(?:action|category)\.")
-
-
 @dataclass(frozen=True)
 class About:
     """What was asked, for the sentences on each component."""
@@ -373,21 +402,6 @@ class About:
     @property
     def host(self) -> str:
         return host_and_path(self.intent.data)[0]
-
-
-def host_and_path(uri: str | None) -> tuple[str, str]:
-    """The host and the path of a URI, as far as it has them."""
-    try:
-        parts = urlsplit(uri or "")
-        return parts.hostname or "", unquote(parts.path)
-    except ValueError:
-        # brackets that don't close: `am` reads such a host, and Python doesn't
-        return "", ""
-
-
-def short(name: str) -> str:
-    """An action or a category without Android's own prefix."""
-    return SHORT.sub("", name)
 
 
 def shown(to: To) -> str:
@@ -436,67 +450,10 @@ def _filtered(found: Account, about: About) -> Sentence:
     known: list["Filter | None"] = [*filters] if len(filters) == len(found.reasons) else [None] * len(found.reasons)
     said = [reason(why, filter, about.intent) for why, filter in zip(found.reasons, known)]
     numbered = said if len(said) == 1 else [f"filter {number} {it}" for number, it in enumerate(said, 1)]
-    nearest = max(found.reasons, key=lambda it: REASON_ORDER.index(it) if it in REASON_ORDER else -1)
+    reasons = found.reasons
+    nearest = max(range(len(reasons)), key=lambda it: tests_passed(reasons[it]))
     says = f"its filter {said[0]}" if len(said) == 1 else "; ".join(numbered)
-    return Sentence(says, REASON_CHANGES.get(nearest, "change its filter"))
-
-
-def reason(why: str, filter: "Filter | None", intent: Intent) -> str:
-    """Why one filter doesn't pass, as the end of a sentence about it."""
-    host, path = host_and_path(intent.data)
-    if why == "action":
-        return f"doesn't list the action {short(intent.action or '')}" + _has(map(short, filter.actions) if filter else ())
-    if why == "scheme":
-        return _scheme_reason(filter, intent)
-    if why == "host":
-        return f"doesn't take the host {host or '(none)'}" + _has(_values(filter, "host"))
-    if why == "path":
-        return f"doesn't take the path {path or '(none)'}" + _has(_path_rules(filter))
-    if why == "type":
-        return _type_reason(filter, intent)
-    if why == "category":
-        return _category_reason(filter, intent)
-    return f"doesn't pass ({why})"
-
-
-def _scheme_reason(filter: "Filter | None", intent: Intent) -> str:
-    schemes, types = _values(filter, "scheme"), _values(filter, "mimeType")
-    if intent.data is None:
-        return "wants a URI, and the intent has none" + _has(schemes)
-    scheme = intent.data.partition(":")[0]
-    if filter is None or schemes:
-        return f"doesn't take the scheme {scheme}" + _has(schemes)
-    takes = f"takes types alone ({', '.join(types)})" if types else "takes no data"
-    return f"{takes}, and the intent has a URI of the scheme {scheme}"
-
-
-def _type_reason(filter: "Filter | None", intent: Intent) -> str:
-    types = _values(filter, "mimeType")
-    if intent.type is None:
-        return "wants a type, and the intent has none" + _has(types)
-    return f"doesn't take the type {intent.type}" + _has(types) if filter is None or types else f"takes no type, and the intent has {intent.type}"
-
-
-def _category_reason(filter: "Filter | None", intent: Intent) -> str:
-    listed = filter.categories if filter else ()
-    lacks = [short(it) for it in intent.categories if it not in listed] if filter else []
-    if not lacks and filter and DEFAULT_CATEGORY not in listed:
-        lacks = ["DEFAULT, which a start needs"]
-    return f"doesn't list the category {', '.join(lacks)}" if lacks else "doesn't list a category that is asked for"
-
-
-def _values(filter: "Filter | None", key: str) -> list[str]:
-    return [str(row[key]) for row in filter.data if key in row] if filter else []
-
-
-def _path_rules(filter: "Filter | None") -> list[str]:
-    return [f"{way}{row[key]}" for row in filter.data for key, way in PATH_KEYS.items() if key in row] if filter else []
-
-
-def _has(values: "Sequence[str] | map[str]") -> str:
-    """What a filter takes instead, if that is known."""
-    listed = list(dict.fromkeys(values))
-    return f", but {' or '.join(listed)}" if listed else ""
+    return Sentence(says, change_of(reasons[nearest], known[nearest], about.intent))
 
 
 PLACED = {
@@ -543,10 +500,18 @@ def stopped(package: str) -> str:
     return f"{package} is stopped, with all that it had."
 
 
+def moment(milliseconds: int) -> str:
+    """A moment as a day and a time (UTC) if a clock told it, else as milliseconds."""
+    if not CLOCKS <= milliseconds < NO_DAYS:
+        return f"{milliseconds} ms"
+    when = datetime.fromtimestamp(milliseconds / 1000, timezone.utc)
+    return f"{when:%Y-%m-%d %H:%M:%S}.{milliseconds % 1000:03}"
+
+
 def advanced(found: Advanced) -> str:
     """The moment, and what is due next."""
-    due = "no delivery has a deadline" if found.due is None else f"the next deadline is {found.due - found.now} ms ahead, at {found.due} ms"
-    return f"the moment is {found.now} ms; {due}."
+    due = "no delivery has a deadline" if found.due is None else f"the next deadline is {found.due - found.now} ms ahead, at {moment(found.due)}"
+    return f"the moment is {moment(found.now)}; {due}."
 
 
 NOT_KEPT = "nothing is kept of this: give --store FILE, or ask a server by --url."
@@ -610,7 +575,7 @@ def caller_of(uid: int, file: "DeviceFile") -> str:
 def entry(found: Entry, file: "DeviceFile") -> tuple[str, str, str, str]:
     """A stored call: its number, its moment, who made it, and what it asked."""
     kept = "" if found.kept else " (not kept)"
-    return str(found.at), f"{found.now} ms", caller_of(found.uid, file), found.route.removeprefix("/v1/") + kept
+    return str(found.at), moment(found.now), caller_of(found.uid, file), found.route.removeprefix("/v1/") + kept
 
 
 SERVED = re.compile(r"^history (\d+) served (\d+)$")
@@ -697,6 +662,10 @@ def not_toml(where: str, what: str, shown: str) -> str:
 
 
 NO_AM = "the program `am` isn't found: name it by --am, in the variable AM or put it on PATH; the repository's README says how to build it."
+
+
+def program(path: str, is_unproved: bool) -> str:
+    return f"am: {path}, not proved: `tools/build_unproved` built it" if is_unproved else f"am: {path}"
 
 
 def no_am(path: str, source: str, is_there: bool) -> str:

@@ -1,5 +1,6 @@
 """Sentences of `amctl adb`: what is refused and why, and what to do instead."""
 from collections.abc import Sequence
+from pathlib import Path
 
 NO_DEVICE = (
     "no device is named: set AMCTL_DEVICE to a device file, and AMCTL_URL too if `am serve` runs on it, as in http://127.0.0.1:8080;"
@@ -7,7 +8,17 @@ NO_DEVICE = (
 )
 NO_COMMAND = "no command is given: write one of adb's, such as `amctl adb shell am start -a android.intent.action.VIEW`; docs/ADB.md lists them."
 NO_INTERACTIVE_SHELL = "`adb shell` without a command isn't served: write the command behind it, such as `adb shell pm list packages`."
-NO_MANIFEST = "no file is given: name a manifest in TOML, as docs/DEVICE.md describes it."
+NO_MANIFEST = "no file is given: name an APK, an AndroidManifest.xml, or a manifest in TOML as docs/DEVICE.md describes it."
+NO_GRANTS_OF_TOML = "-g isn't served: a manifest in TOML doesn't list the permissions that its app asks for; give each by `pm grant`."
+NO_MONKEY = "monkey isn't served without -p PACKAGE: name the app that it starts."
+STATE_ENDS = (
+    "what was started, sent or stopped ends with this session: start `amctl serve device.toml`, and set AMCTL_URL to its address,"
+    " as in http://127.0.0.1:8080, so that it lasts."
+)
+RIGHTS_END = (
+    "what was installed, granted or approved ends with this session: set AMCTL_STORE to a file that keeps it, or AMCTL_URL to a"
+    " server's address."
+)
 NO_ALL_PACKAGES = "`--package all` isn't served: name one package at a time."
 IMPLICIT_SERVICE = "the intent names neither a component nor a package, which a service needs: add -n or -p."
 
@@ -32,10 +43,8 @@ LEFT_OUT = {
     "sideload": "there is no system to replace",
     "backup": "apps have no data here",
     "restore": "apps have no data here",
-    "version": "this isn't adb itself",
     "help": "docs/ADB.md lists what is served",
     "--help": "docs/ADB.md lists what is served",
-    "--version": "this isn't adb itself",
     "-H": "there is no server of adb's; set AMCTL_URL instead",
     "-P": "there is no server of adb's; set AMCTL_URL instead",
     "-t": "there are no transport ids; use -s",
@@ -43,11 +52,10 @@ LEFT_OUT = {
 }
 
 SHELL_LEFT_OUT = {
-    "input": "there is no screen to touch; start the activity with `am start`",
+    "input": "there is no screen to touch; start the activity with `am start`, and go back by `input keyevent KEYCODE_BACK`",
     "screencap": "there is no screen",
     "screenrecord": "there is no screen",
     "uiautomator": "there is no screen",
-    "monkey": "there is no screen to touch; `am start -n` the component that `cmd package resolve-activity --brief PACKAGE` prints",
     "wm": "there is no screen",
     "logcat": "there are no logs; what was asked is in `amctl history`",
     "content": "content providers are left out",
@@ -68,7 +76,8 @@ SHELL_LEFT_OUT = {
     "cmd appops": "app-ops are left out",
     "cmd jobscheduler": "jobs are left out",
     "cmd alarm": "alarms are left out",
-    "grep": "pipe on your own side: put `| grep ..` outside the quotes",
+    "awk": "pipe on your own side: put `| awk ..` outside the quotes",
+    "xargs": "pipe on your own side: put `| xargs ..` outside the quotes",
 }
 
 # what Android has and `am` leaves out, by tool; a word that isn't listed anywhere is unknown to Android too
@@ -85,7 +94,6 @@ NO_SUBCOMMANDS = {
     "set-debug-app": "apps don't run here",
     "clear-debug-app": "apps don't run here",
     "task": "tasks are moved by intents alone; `am stack list` shows them",
-    "get-current-user": "there is one user, 0",
     "switch-user": "several users are left out",
     "start-user": "several users are left out",
     "stop-user": "several users are left out",
@@ -98,9 +106,6 @@ NO_SUBCOMMANDS = {
     "set-inactive": "limits of the background are left out",
     "get-inactive": "limits of the background are left out",
     "make-uid-idle": "limits of the background are left out",
-    "path": "packages have no files here; `pm list packages NAME` says whether one is installed",
-    "dump": "use `dumpsys package NAME`",
-    "clear": "apps have no data here; `am force-stop` stops one",
     "enable": "a component is enabled or not by its manifest",
     "disable": "a component is enabled or not by its manifest",
     "disable-user": "a component is enabled or not by its manifest",
@@ -158,7 +163,6 @@ NO_OPTIONS = {
 }
 
 NO_INSTALL_OPTIONS = {
-    "-g": "-g isn't served: a manifest doesn't list the permissions that its app asks for; give each by `pm grant`.",
     "-i": "-i isn't served: installers are left out.",
     "-l": "-l isn't served: packages have no files here.",
     "-s": "-s isn't served: packages have no files here.",
@@ -189,12 +193,8 @@ def no_option(tool: str, option: str) -> str:
 
 
 def no_dump(asked: str) -> str:
-    why = "use `dumpsys activity activities`, `services` or `broadcasts`, or `dumpsys package NAME`"
+    why = "use `dumpsys activity activities`, `services` or `broadcasts`, `dumpsys package NAME` or `dumpsys window`"
     return _not_served(f"dumpsys {asked}".rstrip(), why)
-
-
-def no_property(name: str, known: Sequence[str]) -> str:
-    return _not_served(f"getprop {name}".rstrip(), f"the properties here are {', '.join(known)}")
 
 
 def no_run_as(command: str) -> str:
@@ -202,7 +202,7 @@ def no_run_as(command: str) -> str:
 
 
 def no_typed_extra(option: str) -> str:
-    return _not_served(option, "of extras texts alone are passed on; use --es, or the client's other commands for numbers and truths")
+    return _not_served(option, "an extra is a text (--es), a whole number (--ei, --el) or a truth (--ez) here")
 
 
 def no_flag(name: str, bit: int) -> str:
@@ -221,23 +221,59 @@ def no_intent_uri(uri: str) -> str:
     return _not_served(uri, "intents as URIs are left out; write its parts as -a, -d, -c and the others")
 
 
-def no_apk(path: str) -> str:
-    return _not_served(path, "`am` installs manifests in TOML; `tools/device_from_apks` writes one from an APK")
+def no_bundle(path: str) -> str:
+    return _not_served(path, "a package has one manifest here; install an APK that has it")
 
 
-def no_operator(operator: str) -> str:
-    return (
-        f"`{operator}` isn't served in the device's shell: to pass it in a word, quote it for that shell too,"
-        " as in adb shell \"am start -d 'http://a.example/?x=1&y=2'\"; to use it on your own side, put it outside the quotes."
-    )
+def dropped_flag(name: str) -> str:
+    return f"{name} isn't sent: `am` doesn't simulate it, and a device may take activities away from the task that it finds."
 
 
-def no_expansion(character: str) -> str:
-    return f"`{character}` isn't expanded in the device's shell: put it in single quotes for that shell, or let your own shell expand it."
+def no_key(key: str) -> str:
+    what = f"input keyevent {key}".rstrip()
+    return _not_served(what, "there is no screen that a key reaches; KEYCODE_BACK is, and MENU and WAKEUP, which do nothing")
 
 
-def open_quote(text: str) -> str:
-    return f"a quote isn't closed for the device's shell: {text}"
+def no_lock(key: str) -> str:
+    return f"{key} changes nothing: there is no screen to wake or to unlock."
+
+
+def only_stopped(package: str) -> str:
+    return f"{package} was stopped alone: apps have no data here, and its grants stay."
+
+
+def no_monkey_count(count: str) -> str:
+    return _not_served(f"monkey with the count {count or '(none)'}", "there is no screen to touch; the count 1 starts the app")
+
+
+def first_started(found: Sequence[str]) -> str:
+    return f"{_and(found)} are in the launcher, of which a device takes any; this starts the first."
+
+
+def left_out(number: int, path: Path) -> str:
+    what = "1 thing of it is" if number == 1 else f"{number} things of it are"
+    return f"{path}: {what} left out or written otherwise: `amctl check {path}` lists each."
+
+
+def granted_all(number: int, package: str) -> str:
+    what = "the permission that it asks for, whatever its level" if number == 1 else f"the {number} permissions that it asks for, whatever their levels"
+    return f"{package} was granted {what}."
+
+
+def tally(commands: int, refused: int) -> str:
+    return f"{refused} of {commands} {'command' if commands == 1 else 'commands'} of adb had words that aren't served."
+
+
+def no_tally(path: str, why: str) -> str:
+    return f"{path} can't be used to count what isn't served ({why}): set AMCTL_REFUSED to another file."
+
+
+def no_tally_named(variable: str) -> str:
+    return f"nothing was counted: set {variable} to a file before the script, or run it by `amctl adb --strict SCRIPT`."
+
+
+def no_script(path: str, why: str) -> str:
+    return f"{path} can't be read ({why}): name a script after --strict."
 
 
 def unknown_subcommand(tool: str, known: Sequence[str]) -> str:

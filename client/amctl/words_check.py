@@ -1,26 +1,14 @@
 """Sentences of `amctl check`: what each rule finds, what is so, and what to do."""
 from collections.abc import Mapping, Sequence
-from dataclasses import dataclass
 from pathlib import Path
-from typing import Literal
 
+from amctl.findings.rule import Rule
 from amctl.words import shown
-
-Severity = Literal["note", "warning", "error"]
-
-
-@dataclass(frozen=True)
-class Rule:
-    """What a rule finds, and how bad that is."""
-
-    group: str
-    severity: Severity
-    finds: str
-
 
 # in the order in which they are shown
 RULES: Mapping[str, Rule] = {
     "unreadable": Rule("app", "error", "The app can't be read, or `am` refuses its manifest."),
+    "left-out": Rule("app", "note", "The converter left this out of the app, or wrote it otherwise, so it wasn't looked at."),
     "taken": Rule("resolution", "error", "What one app opened, another app opens once this one is installed."),
     "refused": Rule("resolution", "error", "What an app opened goes to an activity that refuses its caller."),
     "asks": Rule("resolution", "warning", "What one app opened asks the user to choose."),
@@ -47,7 +35,7 @@ RULES: Mapping[str, Rule] = {
     "key-collides": Rule("names", "error", "The key that the client gives the app is another caller's."),
     "class-twice": Rule("names", "note", "A class has the name of one in another package."),
 }
-BY_AM, BY_COMPARISON = "by am", "compared"
+BY_AM, BY_COMPARISON, BY_CONVERTER = "by am", "compared", "converted"
 # how an answer explains that a component doesn't open the intent any more
 WHY: Mapping[str, str] = {
     "outranked": "outranked by its priority",
@@ -228,6 +216,12 @@ def class_twice(name: str, other: str) -> str:
 def summary(counts: Mapping[str, int]) -> str:
     said = [f"{count} {name}{'' if count == 1 else 's'}" for name, count in counts.items()]
     return f"{', '.join(said[:-1])} and {said[-1]}"
+
+
+def not_looked_at(number: int) -> str:
+    if number == 1:
+        return "1 thing of the app wasn't looked at, since a device file can't say it: `left-out` names it."
+    return f"{number} things of the app weren't looked at, since a device file can't say them: `left-out` names each."
 
 
 def nothing(app: str) -> str:

@@ -1,13 +1,26 @@
-"""Sentences of `amctl lint`: what is so, and what to write instead."""
+"""Sentences of `amctl lint`: what each rule finds, what is so, and what to write instead."""
+from collections.abc import Mapping
 from pathlib import Path
+
+from amctl.findings.rule import Rule
+
+RULES: Mapping[str, Rule] = {
+    "not-toml": Rule("file", "error", "The file isn't TOML 1.0."),
+    "refused": Rule("file", "error", "`am` refuses the file."),
+    "unknown-key": Rule("keys", "warning", "A key that no such table has, and that `am` ignores."),
+    "host": Rule("values", "warning", "A host with something that no host of a link has."),
+    "spelling": Rule("values", "warning", "A name that Android spells otherwise."),
+    "no-effect": Rule("values", "warning", "What has no effect as it is written."),
+    "no-default": Rule("values", "warning", "A filter for web links that no start finds."),
+    "permission": Rule("access", "warning", "A permission that nobody asks for, or that nobody is granted."),
+    "unguarded": Rule("access", "warning", "An exported component with neither filter nor permission."),
+    "key": Rule("access", "warning", "A caller's key that may be taken for another's."),
+    "kept-rows": Rule("store", "error", "What a store keeps doesn't fit the device file."),
+}
 
 
 def no_store(store: Path, fault: str) -> str:
     return f"{store} can't be read as a store ({fault}): name the file that `--store` of a session or a server made, and that no other uses now."
-
-
-def nothing(path: Path) -> str:
-    return f"{path}: nothing found."
 
 
 def refused(why: str) -> str:

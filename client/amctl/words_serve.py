@@ -5,6 +5,10 @@ def port_taken(port: int) -> str:
     return f"port {port} of 127.0.0.1 is in use: stop who listens there, take another one, or leave out --port to get a free one."
 
 
+def network_fault(port: int) -> str:
+    return f"the server ended, since no more connections can be accepted at port {port} of 127.0.0.1: start it again, perhaps at another --port."
+
+
 def port_forbidden(port: int) -> str:
     return f"port {port} is kept for the machine's administrator: take one from 1024 on, or leave out --port to get a free one."
 

@@ -73,12 +73,16 @@ def worker_fault(fault: str) -> str:
     return f"a worker failed ({fault}): what was done is kept; see that all workers have this package and `am`, and run it again."
 
 
-def remarks(unreadable: Sequence[tuple[str, str]], left: int, into: Path) -> list[str]:
+def remarks(unreadable: Sequence[tuple[str, str]], left_out: Sequence[tuple[str, str, str]], left: int, into: Path) -> list[str]:
     """What a person has to know in addition to the table."""
     found = []
     if unreadable:
         apps = "1 app can't be read" if len(unreadable) == 1 else f"{len(unreadable)} apps can't be read"
         found.append(f"{apps}: {into / 'unreadable.csv'} says why.")
+    if left_out:
+        what = "1 thing wasn't" if len(left_out) == 1 else f"{len(left_out)} things weren't"
+        apps = _counted(len({file for file, _, _ in left_out}), "app")
+        found.append(f"{what} looked at in {apps}, since a device file can't say that: {into / 'left-out.csv'} has each.")
     if left:
         found.append(f"{left} links weren't asked about: of a filter that names more than 1,024, the first 1,024 are.")
     return found

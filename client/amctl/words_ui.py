@@ -1,6 +1,5 @@
 """Every sentence of the page: its labels, who may reach a component, what changed, and what went wrong."""
 from collections.abc import Mapping
-from datetime import datetime, timezone
 from typing import TYPE_CHECKING
 
 from amctl import words
@@ -103,10 +102,10 @@ def grant(package: str, permission: str) -> str:
     return f"Grant {package} {permission}"
 
 
-def verdict_line(reached: tuple[str, ...], kind: "Kind") -> str:
+def verdict_line(reached: tuple[str, ...], kind: "Kind", tied: tuple[str, ...] = ()) -> str:
     """The answer in one line."""
     if not reached:
-        return PAGE["nobody"]
+        return f"The user would choose between {', '.join(tied[:-1])} and {tied[-1]}." if len(tied) > 1 else PAGE["nobody"]
     verb = {"activity": "opens", "service": "starts", "receiver": "gets it"}[kind]
     return f"{', '.join(reached)} {verb if len(reached) == 1 else 'get it'}."
 
@@ -151,11 +150,7 @@ def time_left(limit: int, seen_seconds: float, stands: bool) -> str:
 
 
 def moment(milliseconds: int) -> str:
-    """A moment as a time of day if it is one, else as milliseconds."""
-    if milliseconds < 10**11:
-        return f"{milliseconds} ms"
-    when = datetime.fromtimestamp(milliseconds / 1000, timezone.utc)
-    return f"{when:%Y-%m-%d %H:%M:%S}.{milliseconds % 1000:03}"
+    return words.moment(milliseconds)
 
 
 def appeared(line: str) -> str:

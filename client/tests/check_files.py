@@ -58,7 +58,10 @@ class Checked:
 
     def asked(self) -> Asked:
         paths = {name: self._written(f"{name}.json", json.dumps(it) if not isinstance(it, str) else it) for name, it in self.options.items()}
-        return Asked(self._written("app.toml", self.manifest), self._written("device.toml", self.device), **paths)
+        return Asked(self._written("app.toml", self.manifest), self.device_file(), **paths)
+
+    def device_file(self) -> Path:
+        return self._written("device.toml", self.device)
 
     def _written(self, name: str, text: str) -> Path:
         path = self.folder / name

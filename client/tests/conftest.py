@@ -1,15 +1,18 @@
-"""What the tests share: the examples, and commands as a person runs them."""
+"""What the tests share: the examples, commands as a person runs them, and servers."""
 import os
+import signal
 import subprocess
 import sys
 import tempfile
 from collections.abc import Callable, Iterator
+from contextlib import contextmanager
 from dataclasses import dataclass
 from pathlib import Path
 
 import pytest
 
 from amctl import Device
+from amctl.children import ending_with_this_process
 from amctl.find import find_am
 
 TOP = Path(__file__).resolve().parents[2]
@@ -35,6 +38,66 @@ def run_python(*words: str, cwd: Path | None = None, **variables: str) -> Ran:
         [sys.executable, *words], cwd=cwd, env=environment, stdin=subprocess.DEVNULL, capture_output=True, text=True, timeout=PATIENCE_SECONDS
     )
     return Ran(ran.returncode, ran.stdout, ran.stderr)
+
+
+def started(*words: str) -> "subprocess.Popen[str]":
+    """A command that goes on beside the test, and ends with it."""
+    return subprocess.Popen(
+        [sys.executable, "-m", "amctl", *words],
+        env={**os.environ, "PYTHONPATH": str(CLIENT), "AM": str(find_am())},
+        stdout=subprocess.PIPE,
+        stderr=subprocess.PIPE,
+        text=True,
+        preexec_fn=ending_with_this_process(),
+    )
+
+
+def port_of(program: "subprocess.Popen[str]") -> int:
+    """The port at which a server says that it listens."""
+    assert program.stdout is not None
+    line = program.stdout.readline()
+    assert line.startswith("listening on 127.0.0.1:"), line
+    return int(line.rpartition(":")[2])
+
+
+def answering(folder: Path, *answers: tuple[str, str]) -> Path:
+    """A program in the place of `am` that answers so, whatever it is asked, and then nothing. It doesn't end when its input does."""
+    other = folder / "am"
+    (folder / "answers").write_text("".join(f"HTTP/1.1 {head}\r\nContent-Length: {len(body)}\r\n\r\n{body}" for head, body in answers), encoding="utf-8")
+    other.write_text(f"#!/bin/sh\ncat {folder / 'answers'}\nexec sleep 60\n", encoding="utf-8")
+    other.chmod(0o755)
+    return other
+
+
+@contextmanager
+def served(*words: str) -> Iterator[int]:
+    """The port of a server that is ended behind what is done here."""
+    program = started("serve", *words)
+    try:
+        yield port_of(program)
+    finally:
+        program.terminate()
+        program.communicate()
+
+
+@pytest.fixture(scope="session", autouse=True)
+def own_variables() -> Iterator[None]:
+    """No test asks the server, or opens the device, that the developer's shell names."""
+    with pytest.MonkeyPatch.context() as patch:
+        for name in [it for it in os.environ if it.startswith("AMCTL_") or it == "ANDROID_SERIAL"]:
+            patch.delenv(name)
+        yield
+
+
+@pytest.fixture(scope="session", autouse=True)
+def usual_signals() -> Iterator[None]:
+    """What `nohup` or a shell's background has this process ignore, its programs would ignore too; what is caught here isn't."""
+    ignored = [it for it in (signal.SIGHUP, signal.SIGINT, signal.SIGTERM) if signal.getsignal(it) is signal.SIG_IGN]
+    for number in ignored:
+        signal.signal(number, lambda number, frame: None)
+    yield
+    for number in ignored:
+        signal.signal(number, signal.SIG_IGN)
 
 
 @pytest.fixture

@@ -1,8 +1,10 @@
 """`amctl adb` against transcripts of a terminal, and the words that it reads."""
+import io
 import re
 import socket
 import subprocess
 import sys
+import zipfile
 from collections.abc import Iterator
 from contextlib import contextmanager
 from pathlib import Path
@@ -11,14 +13,18 @@ import pytest
 
 import transcripts
 from amctl import words_adb
-from amctl.adb import flags, lines, main, tool
+from amctl.adb import flags, lines, main, properties, tool
 from amctl.adb.console import NotServed, Thrown
 from amctl.adb.intents import AskedIntent, read_intent, safe_uri, short
-from amctl.adb.options import Words, number, user
-from amctl.adb.shell import Line, lines_of
+from amctl.adb.options import Words, long_number, number, truth, user
+from amctl.adb.shell.builtins import BUILTINS
+from amctl.adb.shell.filters import FILTERS
+from amctl.children import ending_with_this_process
+from amctl.device import Device
 from amctl.errors import BadWords
 from amctl.find import find_am
 from amctl.intents import Intent
+from conftest import PATIENCE_SECONDS
 
 HERE = Path(__file__).resolve().parent / "adb"
 CLIENT = HERE.parents[1]
@@ -36,7 +42,7 @@ def free_port() -> int:
 def serving(port: int, before: str = "") -> Iterator[None]:
     """A server of the transcripts' device; it may begin after something else."""
     command = f"{before} exec {find_am()} serve --device device.toml --port {port} --workers 2"
-    with subprocess.Popen(["sh", "-c", command], cwd=HERE, stdout=subprocess.DEVNULL) as server:
+    with subprocess.Popen(["sh", "-c", command], cwd=HERE, stdout=subprocess.DEVNULL, preexec_fn=ending_with_this_process()) as server:
         try:
             yield
         finally:
@@ -51,6 +57,8 @@ def folder(monkeypatch: pytest.MonkeyPatch) -> None:
     for name in ("AMCTL_URL", "AMCTL_STORE", "AMCTL_SERIAL", "ANDROID_SERIAL"):
         monkeypatch.delenv(name, raising=False)
     monkeypatch.setenv("AMCTL_DEVICE", "device.toml")
+    monkeypatch.delenv("AMCTL_REFUSED", raising=False)
+    monkeypatch.setattr("sys.stdin", io.StringIO())
 
 
 @pytest.fixture
@@ -83,6 +91,10 @@ def test_what_is_refused_is_not_done(server: str, capsys: Captured) -> None:
         assert not any("taskId=" in line or "approved" in line for line in printed)
 
 
+def test_scripts_as_they_are_found(server: str, capsys: Captured) -> None:
+    assert check("wild.txt", server, capsys) >= 120
+
+
 def test_sessions_with_a_store(folder: None, tmp_path: Path, monkeypatch: pytest.MonkeyPatch, capsys: Captured) -> None:
     monkeypatch.setenv("AMCTL_STORE", str(tmp_path / "rows"))
     assert check("alone.txt", "0", capsys) == 15
@@ -111,7 +123,7 @@ adb shell am startservice -n com.notes/.None || echo status $?
 """,
         encoding="utf-8",
     )
-    ran = subprocess.run(["bash", str(script)], capture_output=True, text=True, timeout=60)
+    ran = subprocess.run(["bash", str(script)], capture_output=True, text=True, timeout=PATIENCE_SECONDS)
     assert ran.stdout == "com.photos/.Album\nStarting service: Intent { cmp=com.notes/.None }\nstatus 255\n"
     assert ran.stderr == "Error: Not found; no service started.\n"
     assert ran.returncode == 0
@@ -146,13 +158,126 @@ def test_the_device_may_be_named_before_adb_s_words(folder: None, monkeypatch: p
 
 
 def test_a_device_has_one_name(folder: None, monkeypatch: pytest.MonkeyPatch, capsys: Captured) -> None:
-    monkeypatch.setenv("ANDROID_SERIAL", "emulator-5554")
+    monkeypatch.setenv("ANDROID_SERIAL", "R5CT")
     assert main(["get-state"]) == 1
-    assert capsys.readouterr().err.startswith("adb: device 'emulator-5554' not found\namctl: the device is called device;")
-    monkeypatch.setenv("AMCTL_SERIAL", "emulator-5554")
-    assert main(["-s", "emulator-5554", "get-state"]) == 0
+    assert capsys.readouterr().err.startswith("adb: device 'R5CT' not found\namctl: the device is called device;")
+    monkeypatch.setenv("AMCTL_SERIAL", "R5CT")
+    assert main(["-s", "R5CT", "get-state"]) == 0
     assert main(["devices", "-l"]) == 0
-    assert "emulator-5554          device transport_id:1\n" in capsys.readouterr().out
+    assert "R5CT                   device transport_id:1\n" in capsys.readouterr().out
+
+
+def test_the_first_emulator_s_name_is_the_device_s_unless_it_has_another(folder: None, monkeypatch: pytest.MonkeyPatch, capsys: Captured) -> None:
+    assert main(["-s", "emulator-5554", "get-serialno"]) == 0
+    monkeypatch.setenv("ANDROID_SERIAL", "emulator-5554")
+    assert main(["devices"]) == 0
+    assert capsys.readouterr().out == "emulator-5554\nList of devices attached\nemulator-5554\tdevice\n\n"
+    assert main(["-s", "emulator-5556", "get-state"]) == 1
+    monkeypatch.setenv("AMCTL_SERIAL", "R5CT")
+    assert main(["get-state"]) == 1
+    assert capsys.readouterr().err.endswith("the device is called R5CT; set AMCTL_SERIAL=emulator-5554 to call it so.\n")
+
+
+@pytest.mark.parametrize(
+    "line, has_store, says",
+    [
+        ("am start -n com.photos/.Album", False, "what was started, sent or stopped ends with this session: start `amctl serve"),
+        ("am start -n com.photos/.Album", True, "what was started, sent or stopped ends with this session: start `amctl serve"),
+        ("pm grant com.photos a.B", False, "what was installed, granted or approved ends with this session: set AMCTL_STORE"),
+        ("pm grant com.photos a.B", True, None),
+        ("pm list packages", False, None),
+        ("getprop", False, None),
+    ],
+)
+def test_a_session_says_that_its_state_ends(
+    line: str, has_store: bool, says: str | None, folder: None, tmp_path: Path, monkeypatch: pytest.MonkeyPatch, capsys: Captured
+) -> None:
+    if has_store:
+        monkeypatch.setenv("AMCTL_STORE", str(tmp_path / "rows"))
+    assert main(["shell", line]) == 0
+    ours = [it for it in capsys.readouterr().err.splitlines() if it.startswith("amctl: ")]
+    assert len(ours) == (says is not None) and all(it.startswith(f"amctl: {says}") for it in ours)
+
+
+def test_the_commands_of_an_invocation_share_a_session(folder: None, capsys: Captured) -> None:
+    assert main(["shell", "am start -n com.photos/.Album >/dev/null; dumpsys window | grep -c Album"]) == 0
+    assert capsys.readouterr().out == "2\n"
+
+
+def test_extras_are_sent_as_what_they_are(server: str, monkeypatch: pytest.MonkeyPatch) -> None:
+    words = "--es text 7 --ei number 0x10 --el long -5000000000 --ez truth t --ez untruth 0"
+    assert main(["shell", f"am start -n com.photos/.Album {words}"]) == 0
+    with Device.connect(f"http://127.0.0.1:{server}", HERE / "device.toml") as device:
+        found = device.system.tasks()[0].instances[0].intent
+    assert dict(found.extras) == {"text": "7", "number": 16, "long": -5000000000, "truth": True, "untruth": False}
+    # the launcher's other flag isn't `am`'s
+    assert main(["shell", "am start -n com.browser/.Main -f 0x10200000"]) == 0
+    with Device.connect(f"http://127.0.0.1:{server}", HERE / "device.toml") as device:
+        assert device.system.tasks()[0].instances[0].intent.flags == ("NEW_TASK",)
+
+
+def test_the_key_back_ends_what_the_user_sees(server: str, capsys: Captured) -> None:
+    assert main(["shell", "am start -n com.browser/.Main; am start -n com.photos/.Album; input keyevent KEYCODE_BACK KEYCODE_BACK"]) == 0
+    assert main(["shell", "dumpsys window | grep mCurrentFocus"]) == 0
+    assert capsys.readouterr().out.endswith("mCurrentFocus=null\n")
+
+
+def test_apks_are_installed_by_the_converter(folder: None, tmp_path: Path, capsys: Captured) -> None:
+    apk, none = tmp_path / "gallery.apk", tmp_path / "none.apk"
+    with zipfile.ZipFile(apk, "w") as archive:
+        archive.write(HERE / "gallery.xml", "AndroidManifest.xml")
+    none.write_bytes(b"PK")
+    assert main(["install", "-g", str(apk)]) == 0
+    captured = capsys.readouterr()
+    assert captured.out == "Performing Streamed Install\nSuccess\n"
+    assert f"`amctl check {apk}` lists each" in captured.err and "com.gallery was granted the permission" in captured.err
+    assert main(["shell", "pm", "install", str(none)]) == 1
+    captured = capsys.readouterr()
+    assert captured.out == f"Failure [INSTALL_PARSE_FAILED_NOT_APK: Failed to parse {none}]\n"
+    assert f"amctl: {none}: malformed archive" in captured.err
+
+
+def test_a_shell_reads_what_is_piped_to_it(folder: None, monkeypatch: pytest.MonkeyPatch, capsys: Captured) -> None:
+    monkeypatch.setattr("sys.stdin", io.StringIO("pm path com.photos\necho end\n"))
+    assert main(["shell"]) == 0
+    assert capsys.readouterr().out == "package:/data/app/com.photos/base.apk\nend\n"
+
+
+def test_what_is_refused_is_counted(folder: None, tmp_path: Path, monkeypatch: pytest.MonkeyPatch, capsys: Captured) -> None:
+    assert main(["--summary"]) == 1
+    assert "set AMCTL_REFUSED to a file" in capsys.readouterr().err
+    monkeypatch.setenv("AMCTL_REFUSED", str(tmp_path / "refused"))
+    for line in ("pm list packages", "screencap -p; input tap 1 2", "screencap", "am start -n com.none/.A"):
+        main(["shell", line])
+    main(["logcat"])
+    capsys.readouterr()
+    assert main(["--summary"]) == 0
+    said = capsys.readouterr().out.splitlines()
+    assert said[0] == "3 of 5 commands of adb had words that aren't served."
+    assert [it.split(" isn't")[0] for it in said[1:]] == ["   2  adb shell screencap", "   1  adb logcat", "   1  adb shell input"]
+    monkeypatch.setenv("AMCTL_REFUSED", str(tmp_path))
+    assert main(["get-state"]) == 1
+    assert "set AMCTL_REFUSED to another file" in capsys.readouterr().err
+
+
+@pytest.mark.parametrize(
+    "script, status, says",
+    [
+        ("adb get-state; adb shell pm path com.photos", 0, "0 of 2 commands"),
+        ("#!/bin/bash\nif [[ $(adb get-state) == device ]]; then adb shell screencap; fi; adb logcat -c; exit 0\n", 1, "2 of 3 commands"),
+        ("adb logcat; exit 7", 7, "1 of 1 command "),
+        ("kill -TERM $$", 143, "0 of 0 commands"),
+    ],
+)
+def test_a_strict_script_says_at_its_end_what_was_refused(
+    script: str, status: int, says: str, folder: None, tmp_path: Path, capfd: pytest.CaptureFixture[str]
+) -> None:
+    file = tmp_path / "script"
+    file.write_text(script, encoding="utf-8")
+    assert main(["--device", str(HERE / "device.toml"), "--strict", str(file)]) == status
+    assert capfd.readouterr().err.splitlines()[-1].startswith(f"amctl: {says}")
+    assert main(["--strict", str(tmp_path / "none")]) == 1
+    assert "name a script after --strict" in capfd.readouterr().err
 
 
 def test_a_device_file_that_am_refuses_is_said(folder: None, monkeypatch: pytest.MonkeyPatch, tmp_path: Path, capsys: Captured) -> None:
@@ -161,34 +286,6 @@ def test_a_device_file_that_am_refuses_is_said(folder: None, monkeypatch: pytest
     monkeypatch.setenv("AMCTL_DEVICE", str(broken))
     assert main(["shell", "am", "stack", "list"]) == 1
     assert f"{broken}" in capsys.readouterr().err
-
-
-@pytest.mark.parametrize(
-    "text, lines",
-    [
-        ("am start -a x", [Line(("am", "start", "-a", "x"))]),
-        ("  am   start\t-d 'a b' \"c d\" e\\ f", [Line(("am", "start", "-d", "a b", "c d", "e f"))]),
-        ("am start -d 'http://a/?x=1&y=$2'", [Line(("am", "start", "-d", "http://a/?x=1&y=$2"))]),
-        ('am start -d "a\\"b\\$c\\d"', [Line(("am", "start", "-d", 'a"b$c\\d'))]),
-        ("a; b && c || d\ne", [Line(("a",)), Line(("b",)), Line(("c",), "&&"), Line(("d",), "||"), Line(("e",))]),
-        ("am start # a comment; b\npm list", [Line(("am", "start")), Line(("pm", "list"))]),
-        ("am start -a ''", [Line(("am", "start", "-a", ""))]),
-        ("", []),
-    ],
-)
-def test_lines_of_the_device_s_shell(text: str, lines: list[Line]) -> None:
-    assert list(lines_of(text)) == lines
-
-
-@pytest.mark.parametrize("text", ["a & b", "a | b", "a > b", "a < b", "a $B", 'a "$B"', "a `b`", "a 'b", 'a "b', "(a)"])
-def test_lines_that_the_device_s_shell_would_take_for_more(text: str) -> None:
-    with pytest.raises(NotServed):
-        lines_of(text)
-
-
-@pytest.mark.parametrize("join, status, runs", [(";", 1, True), ("&&", 0, True), ("&&", 255, False), ("||", 0, False), ("||", 1, True)])
-def test_a_line_runs_after_another(join: str, status: int, runs: bool) -> None:
-    assert Line(("a",), join).runs_after(status) is runs
 
 
 @pytest.mark.parametrize("text, value", [("32", 32), ("0x20", 32), ("0X20", 32), ("#20", 32), ("040", 32), ("-1", -1), ("0", 0), ("0x7fffffff", 2**31 - 1)])
@@ -200,6 +297,23 @@ def test_numbers_as_java_reads_them(text: str, value: int) -> None:
 def test_numbers_that_java_refuses(text: str) -> None:
     with pytest.raises(Thrown, match="NumberFormatException"):
         number(text)
+
+
+@pytest.mark.parametrize("text, value", [("5", 5), ("-5000000000", -5000000000), ("+7", 7), (str(2**63 - 1), 2**63 - 1)])
+def test_long_numbers_as_java_reads_them(text: str, value: int) -> None:
+    assert long_number(text) == value
+
+
+@pytest.mark.parametrize("text", ["", "0x10", str(2**63), "1_0", " 1", "x"])
+def test_long_numbers_that_java_refuses(text: str) -> None:
+    with pytest.raises(Thrown, match="NumberFormatException"):
+        long_number(text)
+
+
+def test_truths_as_android_reads_them() -> None:
+    assert [truth(it) for it in ("true", "T", "1", "0x2", "-1", "false", "F", "0")] == [True] * 5 + [False] * 3
+    with pytest.raises(Thrown, match="IllegalArgumentException: Invalid boolean value: yes"):
+        truth("Yes")
 
 
 def test_users() -> None:
@@ -287,6 +401,8 @@ def test_flags_depend_on_whom_the_intent_is_for() -> None:
     assert flags.names_of(0x18000020, "receiver") == ("INCLUDE_STOPPED", "NO_ABORT", "FOREGROUND")
     assert flags.names_of(0x18000020, "service") == ("INCLUDE_STOPPED",)
     assert flags.names_of(0x00850000, "activity") == ()
+    assert flags.names_of(0x10200000, "activity") == ("NEW_TASK",)
+    assert flags.dropped(0x10200000) == ("FLAG_ACTIVITY_RESET_TASK_IF_NEEDED",)
     for kind, bits in (("activity", 0x10), ("receiver", 0x20000000), ("activity", 0x100), ("service", 0x1)):
         with pytest.raises(NotServed, match=f"0x{bits:x}"):
             flags.names_of(bits, kind)  # type: ignore[arg-type]
@@ -314,7 +430,8 @@ def test_a_value_that_lacks_is_named() -> None:
 
 def test_the_document_has_every_word_that_is_served() -> None:
     document = (CLIENT.parent / "docs" / "ADB.md").read_text(encoding="utf-8")
-    words = {*lines.AM, *lines.PM, *lines.PROPERTIES, *tool.TOOLS} - {"wait-for-local-device", "wait-for-any-device", "stack", "list"}
+    words = {*lines.AM, *lines.PM, *properties.PROPERTIES, *tool.TOOLS, *BUILTINS, *FILTERS}
+    words -= {"wait-for-local-device", "wait-for-usb-device", "wait-for-any-device", "stack", "list"}
     missing = [word for word in words if not re.search(rf"`([^`]* )?{re.escape(word)}( [^`]*)?`", document)]
     assert missing == []
     assert all(it.name.removeprefix("FLAG_ACTIVITY_").removeprefix("FLAG_RECEIVER_").removeprefix("FLAG_") in document for it in flags.GENERAL if it.use == "sent")

@@ -17,7 +17,7 @@ from amctl.apps.by_aapt2 import read_by_aapt2, tree_of
 from amctl.apps.elements import Element
 from amctl.apps.levels import named
 from amctl.apps.unsaid import CARRIED_ATTRIBUTES, CARRIED_TAGS, SILENT, SILENT_ATTRIBUTES, SILENT_TAGS
-from conftest import EXAMPLES, TOP
+from conftest import EXAMPLES, TOP, Ran
 
 CASES = TOP / "tools" / "device_from_apks_cases"
 COMMAND = TOP / "tools" / "device_from_apks"
@@ -74,6 +74,17 @@ def unsaid() -> App:
 
 def valid(document: Any) -> bool:
     return jsonschema.Draft7Validator(SCHEMA).is_valid(document)  # type: ignore[no-any-return]
+
+
+def test_amctl_convert_does_what_the_tool_does(amctl: Callable[..., Ran], tmp_path: Path) -> None:
+    asked = [str(CASES / "unsaid.xml"), "--grant-all", "--strict", "--facts"]
+    tool = subprocess.run([COMMAND, *asked, tmp_path / "tool.json"], capture_output=True, text=True, cwd=tmp_path)
+    ran = amctl("convert", *asked, "client.json")
+    assert (ran.status, ran.out, ran.err) == (tool.returncode, tool.stdout, tool.stderr)
+    assert tool.returncode == 1 and "left out" in tool.stderr and tool.stdout
+    assert (tmp_path / "client.json").read_bytes() == (tmp_path / "tool.json").read_bytes()
+    missing = amctl("convert", "nowhere.apk", "--reader", "aapt2")
+    assert missing.status == 2 and "nowhere.apk" in missing.err
 
 
 def test_a_manifest_is_the_one_of_its_entry() -> None:

@@ -1,6 +1,7 @@
 """`amctl check`: each rule with an app that has the fault, and one that hasn't."""
 import json
 import sys
+import tempfile
 import tomllib
 import types
 from collections.abc import Callable
@@ -157,19 +158,19 @@ def test_each_rule(rule: str, on: str, faulty: str, place: str, said: str, sound
 
 
 def test_every_rule_is_tried() -> None:
-    assert {it[0] for it in CASES} == set(RULES)
+    # what is left out is the converter's, which no manifest in TOML needs
+    assert {it[0] for it in CASES} | {"left-out"} == set(RULES)
 
 
 def test_what_am_answered_can_be_asked_again(tmp_path: Path) -> None:
     """Each exchange is shown by the device that it names: before, after, or approved."""
     checked = Checked(tmp_path, device(OLD, BROWSER), app(component(filters=[filter_of()]), component(name=".L", filters=[web("a.example")])))
-    asked = checked.asked()
     states = set()
     for finding in checked.findings():
         assert finding.is_compared == (not finding.exchanges)
         for exchange in finding.to_json("app.toml")["exchanges"]:
             states.add(exchange["state"])
-            with Device.open(asked.device) as again:
+            with Device.open(checked.device_file()) as again:
                 again.system.install('package = "amctl.check"\n')
                 if exchange["state"] != "before":
                     again.system.install(checked.manifest)
@@ -195,7 +196,7 @@ def test_the_system_is_asked_where_it_differs(tmp_path: Path) -> None:
 def test_what_is_heard_is_what_a_broadcast_reaches(priority: int, tmp_path: Path) -> None:
     checked = Checked(tmp_path, HEARER, app(component("receiver", filters=[filter_of("x.NEWS", priority=priority)])))
     line = next(it for it in checked.findings() if it.rule == "hears")
-    with Device.open(checked.asked().device) as on:
+    with Device.open(checked.device_file()) as on:
         on.system.install('package = "amctl.check"\n')
         on.system.install(checked.manifest)
         sent = on.app("amctl.check").send(line.exchanges[0].intent)
@@ -209,6 +210,59 @@ def test_an_app_of_more_hosts_than_can_be_approved_at_once(tmp_path: Path) -> No
     found = [it for it in Checked(tmp_path, device(BROWSER), app(component(filters=links))).findings() if it.rule == "link"]
     assert len(found) == 320
     assert all("once approved: opens com.new/.C" in it.message for it in found)
+
+
+def test_the_links_of_a_host_are_one_finding(tmp_path: Path) -> None:
+    """But for those of which something else is said, and those of another action."""
+    rows = ", ".join(f'{{ scheme = "{scheme}", host = "a.example", path = "/p{at}" }}' for scheme in ("http", "https") for at in range(9))
+    one = '{ scheme = "https", host = "b.example", path = "/p" }'
+    links = [filter_of(VIEW, rows, categories=(DEFAULT, BROWSABLE)), filter_of(VIEW, one, categories=(DEFAULT, BROWSABLE)), filter_of("x.B", rows)]
+    options = {"assetlinks": {}, "facts": {"packages": {APP: {}}}}
+    found = Checked(tmp_path, device(BROWSER), app(component(filters=links)), options).findings()
+    about = {rule: [(it.about, len(it.exchanges)) for it in found if it.rule == rule] for rule in ("link-unstated", "link-unverified", "opens", "link-lost")}
+    all_links, one_link = f"-a {VIEW} -d http|https://a.example/...", f"-a {VIEW} -d https://b.example/p"
+    assert about["link-unstated"] == about["link-unverified"] == [(all_links, 0), (one_link, 0)]
+    assert about["opens"] == [("-a x.B -d http|https://a.example/...", 36)]
+    # the browser takes only `https`
+    assert about["link-lost"] == [(f"-a {VIEW} -d http://a.example/...", 18), (f"-a {VIEW} -d https://a.example/...", 18), (one_link, 2)]
+
+
+def test_an_app_is_checked_alone(tmp_path: Path) -> None:
+    checked = Checked(tmp_path, manifest=app(component("service"), component(name=".D", filters=[filter_of("x.B")])))
+    report = check(Asked(checked.asked().app))
+    assert [(it.rule, it.about) for it in report.findings] == [("opens", "-a x.B"), ("open-service", "com.new/.C"), ("open-activity", "com.new/.D")]
+    history = checked._written("history", stored("/v1/send", {"action": "x.B"}, uid=10000))
+    assert check(Asked(checked.asked().app, history=history)).device is None
+    assert {path.name for path in Path(tempfile.gettempdir()).glob("amctl_check_*")} == set()
+
+
+def test_what_the_converter_leaves_out_is_a_note(tmp_path: Path, amctl: Callable[..., Ran]) -> None:
+    """With its component; an app whose provider any app may read isn't found to be without anything to look at."""
+    text = '<manifest xmlns:android="http://schemas.android.com/apk/res/android" package="com.xml"><application>'
+    text += '<provider android:name=".P" android:authorities="com.xml" android:exported="true"/>'
+    text += '<activity android:name=".A" android:noHistory="true" android:exported="false"/></application></manifest>'
+    (tmp_path / "AndroidManifest.xml").write_text(text, encoding="utf-8")
+    ran = amctl("check", "AndroidManifest.xml")
+    assert (ran.status, ran.err) == (0, "")
+    assert ran.out == (
+        "note  left-out  activity[0]  converted  com.xml.A\n"
+        '    left out noHistory "true": a device file has no noHistory\n'
+        "note  left-out  package      converted  com.xml.P\n"
+        "    left out provider: a device file has no providers\n"
+        "0 errors, 0 warnings and 2 notes\n"
+        "2 things of the app weren't looked at, since a device file can't say them: `left-out` names each.\n"
+    )
+    ran = amctl("check", "AndroidManifest.xml", "--format", "json", "--severity", "note")
+    document = json.loads(ran.out)
+    assert (ran.status, document["device"], document["leftOut"]) == (1, None, 2)
+    (tmp_path / "baseline").write_text(ran.out, encoding="utf-8")
+    sarif = json.loads(amctl("check", "AndroidManifest.xml", "--format", "sarif").out)["runs"][0]
+    assert (sarif["properties"], len(sarif["results"])) == ({"leftOut": 2}, 2)
+    ran = amctl("check", "AndroidManifest.xml", "--baseline", "baseline")
+    assert ran.out.splitlines() == [
+        "AndroidManifest.xml: nothing new.",
+        "2 things of the app weren't looked at, since a device file can't say them: `left-out` names each.",
+    ]
 
 
 def test_a_protected_broadcast_is_heard_of_the_system_alone(tmp_path: Path) -> None:
@@ -246,8 +300,7 @@ def test_each_filter_takes_its_witnesses(row: str, tmp_path: Path) -> None:
 
 
 def test_a_copy_that_has_answered_much_is_made_anew(tmp_path: Path) -> None:
-    asked = Checked(tmp_path, device(BROWSER)).asked()
-    with Copies(asked.device, None, "amctl.check", most_asked=5) as copies:
+    with Copies(Checked(tmp_path, device(BROWSER)).device_file(), None, "amctl.check", most_asked=5) as copies:
         copies.install(app(LINK))
         copies.approve(APP, "a.example")
         for _ in range(12):
@@ -304,7 +357,7 @@ def test_only_hosts_that_would_be_approved_are(tmp_path: Path) -> None:
 def test_an_app_of_the_converter(tmp_path: Path, monkeypatch: pytest.MonkeyPatch) -> None:
     """What isn't a file in TOML is read by the converter, with its facts; places are paths then."""
     facts = {"permissions": [{"name": "com.new.READ", "protectionLevel": "dangerous"}, {"name": "com.new.X", "protectionLevel": None}], "autoVerify": []}
-    read = types.SimpleNamespace(package=APP, manifest=GUARDED, facts=types.SimpleNamespace(to_json=lambda: facts))
+    read = types.SimpleNamespace(package=APP, manifest=GUARDED, left_out=(), facts=types.SimpleNamespace(to_json=lambda: facts))
     converter: Any = types.SimpleNamespace(read_app=lambda path: read)
     monkeypatch.setitem(sys.modules, "amctl.apps", converter)
     asked = Checked(tmp_path).asked()

@@ -11,10 +11,13 @@ import jsonschema  # type: ignore[import]  # Debian has no stubs of it
 import pytest
 
 from amctl.check import Asked, Report, main
-from amctl.check.finding import Finding
-from amctl.check.junit import write as write_junit
-from amctl.check.report import write_text
+from amctl.errors import BadWords
+from amctl.findings.finding import Finding
+from amctl.findings.junit import write as write_junit
+from amctl.findings.report import write_text
+from amctl.lint import main as lint
 from amctl.words_check import RULES
+from amctl.words_lint import RULES as LINT_RULES
 from check_files import Checked, app, component, device, filter_of
 from conftest import EXAMPLES
 
@@ -139,7 +142,7 @@ def test_the_table_of_a_terminal() -> None:
 def test_json_has_every_field(tmp_path: Path) -> None:
     status, text = Checked(tmp_path, manifest=app(component("service"))).printed(form="json")
     document = json.loads(text)
-    assert set(document) == {"app", "device", "findings", "hidden"}
+    assert set(document) == {"app", "device", "findings", "hidden", "leftOut"}
     assert set(document["findings"][0]) == {"id", "rule", "group", "severity", "file", "at", "line", "column", "about", "message", "compared", "exchanges"}
     exchange = document["findings"][0]["exchanges"][0]
     assert exchange == {
@@ -152,3 +155,72 @@ def test_json_has_every_field(tmp_path: Path) -> None:
 def test_no_key_is_shown() -> None:
     whole = "".join(printed(it) for it in ("text", "json", "sarif", "junit"))
     assert '"k1"' not in whole and '"sys"' not in whole
+
+
+FAULTY = """system_key = "sys"
+browser = "com.onee"
+[[package]]
+key = "k1"
+manifest = { package = "com.one", activity = [{ name = ".A", exported = true }, { name = ".B", exported = true }] }
+"""
+
+
+@pytest.fixture
+def faulty(tmp_path: Path) -> Path:
+    file = tmp_path / "device.toml"
+    file.write_text(FAULTY, encoding="utf-8")
+    return file
+
+
+def linted(file: Path, **words: Any) -> tuple[int, str]:
+    out = io.StringIO()
+    return lint(file, out=out, **words), out.getvalue()
+
+
+def test_lint_is_told_in_the_same_forms(faulty: Path) -> None:
+    document = json.loads(linted(faulty, form="json")[1])
+    assert set(document) == {"device", "findings", "hidden"}
+    found = document["findings"]
+    assert [(it["rule"], it["severity"], it["line"], it["about"]) for it in found] == [
+        ("spelling", "warning", 2, "device.toml"),
+        ("unguarded", "warning", 5, "com.one/com.one.A"),
+        ("unguarded", "warning", 5, "com.one/com.one.B"),
+    ]
+    sarif = json.loads(linted(faulty, form="sarif")[1])
+    jsonschema.validate(sarif, SARIF)
+    run = sarif["runs"][0]
+    assert run["tool"]["driver"]["name"] == "amctl lint"
+    assert [it["id"] for it in run["tool"]["driver"]["rules"]] == list(LINT_RULES)
+    assert [it["partialFingerprints"] for it in run["results"]] == [{"amctlLint/v1": it["id"]} for it in found]
+    suites = ET.fromstring(linted(faulty, form="junit")[1])
+    jsonschema.validate(tree(suites), JUNIT)
+    assert (suites.attrib["failures"], suites.attrib["tests"]) == ("3", str(3 + len(LINT_RULES) - 2))
+    assert {it.attrib["classname"] for it in suites.iter("testcase")} == {f"amctl.lint.{it}" for it in ("file", "keys", "values", "access", "store")}
+
+
+def test_a_baseline_of_lint_hides_what_only_moved(faulty: Path, tmp_path: Path) -> None:
+    baseline = tmp_path / "baseline.json"
+    baseline.write_text(linted(faulty, form="json")[1], encoding="utf-8")
+    assert linted(faulty, baseline=baseline) == (0, f"{faulty}: nothing new.\n")
+    # another package before it, and a fault of its own
+    other = '[[package]]\nkey = "k2"\nmanifest = { package = "com.two", service = [{ name = ".S", exported = true }] }\n[[package]]'
+    faulty.write_text(FAULTY.replace("[[package]]", other, 1), encoding="utf-8")
+    status, said = linted(faulty, baseline=baseline)
+    assert (status, said.splitlines()[0].partition(": ")[2]) == (1, "unguarded: any app reaches com.two/com.two.S by its name, and no intent finds it: give it the filter that it is exported for, or a `permission`, or write `exported = false`.")
+    assert said.count("unguarded") == 1
+    assert json.loads(linted(faulty, baseline=baseline, form="json")[1])["hidden"] == 3
+
+
+def test_a_severity_of_lint(faulty: Path) -> None:
+    assert [linted(faulty, severity=it)[0] for it in ("note", "warning", "error")] == [1, 1, 0]
+    faulty.write_text(FAULTY.replace("key = \"k1\"", "key = 1"), encoding="utf-8")
+    assert linted(faulty, severity="error")[0] == 1
+    for wrong in ({"severity": "fatal"}, {"form": "xml"}):
+        with pytest.raises(BadWords, match="take one of"):
+            linted(faulty, **wrong)
+
+
+def test_a_baseline_of_a_check_is_none_of_lint_s_findings(faulty: Path, tmp_path: Path) -> None:
+    baseline = tmp_path / "baseline.json"
+    baseline.write_text(printed("json"), encoding="utf-8")
+    assert linted(faulty, baseline=baseline) == linted(faulty)

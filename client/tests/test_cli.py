@@ -9,15 +9,15 @@ import click
 import pytest
 import typer
 
-from amctl import Intent, cli
+from amctl import Intent, cli, words, words_reasons
 from amctl.options import IntentWords
-from conftest import EXAMPLES, Ran, run_python
+from conftest import EXAMPLES, TOP, Ran, run_python
 
 DEVICE = str(EXAMPLES / "device.toml")
 ORDERS = str(EXAMPLES / "orders.toml")
 LINK = "https://www.photos.example/album/cats"
 NAMES = [
-    "adb", "advance", "broadcast", "check", "force-stop", "grant", "history", "inbox", "install", "link", "lint", "revoke", "serve", "services",
+    "adb", "advance", "broadcast", "check", "compare", "convert", "force-stop", "from-phone", "grant", "history", "inbox", "install", "link", "lint", "revoke", "serve", "services",
     "start", "start-service", "survey", "tasks", "ui", "uninstall", "visible", "why",
 ]  # fmt: skip
 SERVICES = """
@@ -74,6 +74,52 @@ def test_what_why_says_would_change_it_changes_it(run: Callable[..., Ran], rows:
     ran = run("link", "--device", DEVICE, "--store", str(rows), "com.photos", "www.photos.example", "--denied")
     assert ran.out == "com.photos is not approved for www.photos.example.\n"
     assert "com.browser/.Page      reached" in run("why", "--device", DEVICE, "--store", str(rows), "--as", "com.browser", LINK).out
+
+
+def near_device(folder: Path) -> str:
+    """Packages whose activities come nearer and nearer to a link, and twelve that are as far as can be."""
+    rows = {
+        "type": '{ scheme = "https", host = "a.example", path = "/x", mimeType = "a/b" }',
+        "path": '{ scheme = "https", host = "a.example", path = "/y" }',
+        "host": '{ scheme = "https", host = "b.example" }',
+        "scheme": '{ scheme = "geo" }',
+        "fits": '{ scheme = "https", host = "a.example" }',
+    }
+    view, default = '"android.intent.action.VIEW"', '"android.intent.category.DEFAULT"'
+    filters = {name: f"action = [{view}], category = [{default}], data = [{row}]" for name, row in rows.items()}
+    filters["category"] = f"action = [{view}], data = [{rows['fits']}]"
+    filters |= {f"far{it:02}": 'action = ["x.A"]' for it in range(12)} | {"alike": 'action = ["VIEW"]'}
+    of_filters = {name: f"exported = true\nintent-filter = [{{ {it} }}]" for name, it in filters.items()}
+    of_filters |= {"none": "exported = true", "off": f"enabled = false\n{of_filters['fits']}", "shut": of_filters["fits"].replace("true", "false", 1)}
+    packages = (f'[[package]]\nkey = "{it}"\n[package.manifest]\npackage = "com.{it}"\n[[package.manifest.activity]]\nname = ".A"\n' for it in sorted(of_filters))
+    text = "".join(head + of_filters[name] + "\n" for head, name in zip(packages, sorted(of_filters)))
+    file = folder / "near.toml"
+    file.write_text(f'system_key = "s"\nbrowser = "com.fits"\n[[link]]\npackage = "com.fits"\nhost = "a.example"\n{text}', encoding="utf-8")
+    return str(file)
+
+
+def test_the_nearest_misses_come_first_and_the_others_are_counted(run: Callable[..., Ran], tmp_path: Path) -> None:
+    device = near_device(tmp_path)
+    ran = run("why", "--near", "--device", device, "--as", "com.far00", "https://a.example/x")
+    assert (ran.status, ran.err) == (0, "")
+    *accounts, rest = [it for it in ran.out.splitlines() if "->" not in it]
+    names = [it.partition("/")[0].removeprefix("com.") for it in accounts]
+    # by how many tests they passed: all, those of the category, the type, the path, the host, the scheme, and none
+    assert names == ["fits", "shut", "category", "type", "path", "host", "scheme", "alike", "far00", "far01", "far02"]
+    assert rest == "11 more: 9 whose filters don't list the action, 1 without a filter, 1 not enabled."
+    shown = json.loads(run("why", "--near", "--json", "--device", device, "--as", "com.far00", "https://a.example/x").out)
+    assert [it["to"].partition("/")[0].removeprefix("com.") for it in shown["accounts"]] == names
+    assert shown["rest"] == {"action": 9, "no_filter": 1, "disabled": 1}
+    assert "rest" not in json.loads(run("why", "--json", "--device", device, "https://a.example/x").out)
+
+
+def test_few_misses_are_all_shown(run: Callable[..., Ran]) -> None:
+    ran = run("why", "--near", "--device", DEVICE, "--as", "com.browser", LINK)
+    assert " more: " not in ran.out and len([it for it in ran.out.splitlines() if "->" not in it]) == 4
+
+
+def test_what_is_not_shown_has_words_for_every_verdict() -> None:
+    assert set(words_reasons.REST) >= {*words_reasons.REASON_ORDER, *words.VERDICTS, "no_filter", "narrowed"} - {"reached", "admitted", "approved", "browser", "general"}
 
 
 def test_json_is_what_am_writes(run: Callable[..., Ran]) -> None:
@@ -235,20 +281,14 @@ def test_every_command_has_help_with_an_example_that_it_takes() -> None:
             command.make_context(name, list(words))
 
 
+def test_the_version_is_the_repository_s(run: Callable[..., Ran]) -> None:
+    ran = run("--version")
+    assert (ran.status, ran.out.splitlines()[0]) == (0, f"amctl {(TOP / 'VERSION').read_text(encoding='utf-8').strip()}")
+
+
 def test_help_is_printed() -> None:
     ran = run_python("-m", "amctl", "why", "--help", COLUMNS="200")
     assert ran.status == 0
     assert "Example: amctl why --device device.toml --as com.browser https://www.photos.example/album/cats" in ran.out
     # what isn't a terminal gets no frames, and doesn't wait for who draws them
     assert "─" not in ran.out
-
-
-def test_no_command_is_longer_than_it_may_be() -> None:
-    import ast
-
-    long = []
-    for file in sorted(Path(cli.__file__).parent.rglob("*.py")):
-        for node in ast.walk(ast.parse(file.read_text(encoding="utf-8"))):
-            if isinstance(node, ast.FunctionDef) and (node.end_lineno or 0) - node.lineno >= 40:
-                long.append(f"{file.name}: {node.name}")
-    assert long == []

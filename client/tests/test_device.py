@@ -1,17 +1,20 @@
 """The Device apart from what docs/HTTP.md shows: sessions, keys, refusals, stores and servers."""
+import dataclasses
 import http.server
+import re
 import socket
 import threading
-from collections.abc import Iterator
+from collections.abc import Callable, Iterator
 from pathlib import Path
+from typing import Any
 
 import pytest
 
-from amctl import Advanced, Choose, Device, Intent, IntentFilter, Refusal, transport
+from amctl import Advanced, Choose, Device, Intent, IntentFilter, Refusal, results, transport
 from amctl.errors import BadWords, DeviceFault, Ended, NoProgram, NoServer, OtherAnswer
 from amctl.results import Delivery, OrderedDelivery, Placed, Result
 from amctl.serve import free_port, listeners
-from conftest import CLIENT, EXAMPLES, run_python
+from conftest import CLIENT, EXAMPLES, TOP, answering, port_of, run_python, started
 
 LINK = Intent.view("https://www.photos.example/album/cats", flags=("NEW_TASK",))
 MAPS = 'package = "com.maps"\n[[activity]]\nname = ".Show"\nexported = true\n[[activity.intent-filter]]\naction = ["a.MAP"]\n'
@@ -34,6 +37,58 @@ def test_the_link_goes_to_the_browser_until_the_album_is_approved(photos: Device
     second = browser.start(LINK)
     assert isinstance(second, Placed) and photos.component_of(second) == "com.photos/com.photos.Album"
     assert [it.by for it in browser.explain("activity", LINK) if it.verdict == "narrowed"] == ["approved"]
+
+
+def test_a_text_is_an_intent_wherever_one_is_taken(photos: Device) -> None:
+    browser = photos.app("com.browser")
+    text, link = "https://www.photos.example/album/cats", Intent.view("https://www.photos.example/album/cats")
+    assert browser.query("activity", text) == browser.query("activity", link)
+    assert browser.explain("activity", text) == browser.explain("activity", link)
+    assert photos.visible("com.browser", "activity", text) == photos.visible("com.browser", "activity", link)
+    # a text can't say NEW_TASK, and an intent could
+    assert browser.start(text) == Placed(instance=1, placed="fresh", task=1)
+    with pytest.raises(Refusal, match="a start that no activity makes needs a task of its own"):
+        browser.start(link)
+    assert browser.start("com.browser/.Settings", source=1) == Placed(instance=2, placed="fresh", task=1)
+    assert browser.send("com.photos").receivers == ()
+    token = browser.pending_get("activity", 1, text, ["IMMUTABLE"])
+    assert token == browser.pending_get("activity", 1, link, ("IMMUTABLE", "NO_CREATE"))
+
+
+@pytest.mark.parametrize(
+    "make, said",
+    [
+        (lambda: Intent(flags="NEW_TASK"), "flags takes several texts, and this is one, 'NEW_TASK': write ('NEW_TASK',)."),  # type: ignore[arg-type]
+        (lambda: Intent(categories="x.C"), "categories takes several texts, and this is one, 'x.C': write ('x.C',)."),  # type: ignore[arg-type]
+        (lambda: Intent.view("a:b", flags="X"), "flags takes several texts, and this is one, 'X': write ('X',)."),
+        (lambda: IntentFilter("x.A"), "actions takes several texts, and this is one, 'x.A': write ('x.A',)."),  # type: ignore[arg-type]
+        (lambda: IntentFilter(("x.A",), "x.C"), "categories takes several texts, and this is one, 'x.C': write ('x.C',)."),  # type: ignore[arg-type]
+        (lambda: IntentFilter(("x.A",), data={"scheme": "a"}), "data takes several rows, and this is one, {'scheme': 'a'}: write ({'scheme': 'a'},)."),  # type: ignore[arg-type]
+    ],
+)
+def test_one_text_in_the_place_of_several_is_refused(make: Callable[[], object], said: str) -> None:
+    with pytest.raises(TypeError) as refused:
+        make()
+    assert str(refused.value) == said
+
+
+def test_flags_of_a_pending_intent_are_several_too(photos: Device) -> None:
+    with pytest.raises(TypeError, match="flags takes several texts, and this is one, 'IMMUTABLE'"):
+        photos.system.pending_get("activity", 1, LINK, "IMMUTABLE")
+    assert photos.system.status().history == 0
+
+
+def test_lists_are_taken_as_tuples_are() -> None:
+    listed: Any = ["NEW_TASK"]
+    assert Intent(flags=listed) == Intent(flags=("NEW_TASK",))
+    assert IntentFilter(listed, data=[]) == IntentFilter(("NEW_TASK",))  # type: ignore[arg-type]
+
+
+def test_values_may_be_in_a_set() -> None:
+    one, same = Intent(action="a.X", extras={"n": 1}), Intent(action="a.X", extras={"n": 1})
+    assert hash(Intent()) == hash(Intent()) and len({one, same, Intent(action="a.X")}) == 2
+    assert len({IntentFilter(("a",), data=({"scheme": "b"},)), IntentFilter(("a",), data=({"scheme": "b"},))}) == 1
+    assert len({Result(1, None, 2, {"n": 1}, 3), Result(1, None, 2, {"n": 1}, 3)}) == 1
 
 
 def test_a_choice_is_a_result(tmp_path: Path) -> None:
@@ -213,17 +268,11 @@ def test_eight_devices_at_once_are_eight_devices() -> None:
 
 
 @pytest.fixture
-def server(tmp_path: Path) -> Iterator[str]:
+def server() -> Iterator[str]:
     """A server of the README's shop, with one worker."""
-    import subprocess
-    import sys
-    import os
-
     port = free_port()
-    words = [sys.executable, "-m", "amctl", "serve", str(EXAMPLES / "orders.toml"), "--port", str(port), "--workers", "1"]
-    program = subprocess.Popen(words, env={**os.environ, "PYTHONPATH": str(CLIENT)}, stdout=subprocess.PIPE, text=True)
-    assert program.stdout is not None
-    assert program.stdout.readline() == f"listening on 127.0.0.1:{port}\n"
+    program = started("serve", str(EXAMPLES / "orders.toml"), "--port", str(port), "--workers", "1")
+    assert port_of(program) == port
     yield f"http://127.0.0.1:{port}"
     program.terminate()
     assert program.communicate()[0] == "stopped by SIGTERM\n"
@@ -275,7 +324,7 @@ def test_what_is_no_am_says_so(tmp_path: Path) -> None:
     other.chmod(0o755)
     with pytest.raises(Ended, match="the program ended before it answered: check that it is this project's `am`"):
         Device.open(EXAMPLES / "device.toml", am=other)
-    with pytest.raises(Ended, match="doesn't take the words of this client"):
+    with pytest.raises(Ended, match="the program isn't this project's `am`, and said .*: name the built `am` by --am or in the variable AM"):
         Device.open(EXAMPLES / "device.toml", am="/bin/ls")
 
 
@@ -305,15 +354,6 @@ def test_a_server_that_answers_oddly_is_told_from_am(head: tuple[str, str], body
             device.system.status()
 
 
-def answering(tmp_path: Path, *answers: tuple[str, str]) -> Path:
-    """A program that answers so, whatever it is asked, and then nothing."""
-    other = tmp_path / "am"
-    (tmp_path / "answers").write_text("".join(f"HTTP/1.1 {head}\r\nContent-Length: {len(body)}\r\n\r\n{body}" for head, body in answers), encoding="utf-8")
-    other.write_text(f"#!/bin/sh\ncat {tmp_path / 'answers'}\nexec sleep 60\n", encoding="utf-8")
-    other.chmod(0o755)
-    return other
-
-
 def test_what_is_silent_is_not_waited_for_without_end(tmp_path: Path, monkeypatch: pytest.MonkeyPatch) -> None:
     monkeypatch.setattr(transport, "SESSION_PATIENCE_SECONDS", 0.2)
     with pytest.raises(NoProgram, match="the program didn't answer in 0 seconds: check that it is this project's `am`"):
@@ -331,7 +371,7 @@ def test_a_silent_server_is_not_waited_for_without_end(monkeypatch: pytest.Monke
 
 def test_an_answer_of_another_version_is_told_from_a_refusal(tmp_path: Path, monkeypatch: pytest.MonkeyPatch) -> None:
     monkeypatch.setattr(transport, "END_SECONDS", 0.2)
-    accounts = '{"accounts":[{"to":"a/b","verdict":"reached","since":13}]}'
+    accounts = '{"accounts":[{"to":"a/b"}]}'
     other = answering(tmp_path, ("404 -", '{"error":"no_route"}'), ("200 -\r\nAM-At: 0", "{}"), ("200 -\r\nAM-At: 0", accounts))
     with Device.open(EXAMPLES / "device.toml", am=other) as device:
         with pytest.raises(OtherAnswer, match="isn't one that this client knows: build `am` and this client from the same version"):
@@ -348,3 +388,12 @@ def test_a_file_that_am_refuses_is_shown_with_its_line(tmp_path: Path) -> None:
     assert str(raised.value).startswith(f"{file}:5:")
     assert "com.one.A has a filter and doesn't state whether other apps may reach it" in str(raised.value)
     assert "secret" not in str(raised.value)
+
+
+def test_the_document_has_the_fields_of_each_result() -> None:
+    text = (TOP / "docs" / "CLIENT.md").read_text(encoding="utf-8")
+    rows = re.findall(r"^\| `([A-Z]\w+)` \| (.*?) \| ", text, re.M)
+    listed = {name: re.findall(r"`(\w+)`", fields) for name, fields in rows}
+    kinds = {name: kind for name, kind in vars(results).items() if isinstance(kind, type) and dataclasses.is_dataclass(kind)}
+    there = {name: [it.name for it in dataclasses.fields(kind)] for name, kind in kinds.items() if kind.__module__ == results.__name__}
+    assert listed == there

@@ -148,7 +148,7 @@ def test_exchanges(talk: Talk, tmp_path: Path) -> None:
 def test_the_document_has_every_route() -> None:
     shown = {it.path for talk in talks() for it in talk.exchanges}
     text = (TOP / "docs" / "HTTP.md").read_text(encoding="utf-8")
-    listed = set(re.findall(r"^\| `(?:GET|POST) (/v1/[a-z_/]+)` \|", text, re.M))
+    listed = set(re.findall(r"^\| \[`(?:GET|POST) (/v1/[a-z_/]+)`\]", text, re.M))
     assert len(listed) == 27
     assert shown == listed
 

@@ -12,6 +12,7 @@ from amctl.errors import BadWords, DeviceFault
 from amctl.kept import read_kept
 from amctl.lint import Finding, lint, main
 from amctl.lint.names import ACTIONS, meant, mode_meant
+from amctl.places import Place
 from conftest import EXAMPLES
 
 VIEW, DEFAULT, BROWSABLE = "android.intent.action.VIEW", "android.intent.category.DEFAULT", "android.intent.category.BROWSABLE"
@@ -135,9 +136,9 @@ CASES = [
 @pytest.mark.parametrize("rule, faulty, line, said, sound", CASES)
 def test_each_rule(rule: str, faulty: str, line: int, said: str, sound: str, write: Write) -> None:
     found = [it for it in lint(write(faulty)) if it.rule == rule]
-    assert [it.line for it in found] == [line], [it.text(Path("device.toml")) for it in found]
+    assert [it.line_and_column[0] for it in found] == [line], found
     assert said in found[0].message
-    assert found[0].column > 0
+    assert found[0].line_and_column[1] > 0
     assert not [it for it in lint(write(sound)) if it.rule == rule]
 
 
@@ -160,8 +161,8 @@ def test_what_is_printed(write: Write, capsys: "pytest.CaptureFixture[str]") -> 
         f"{path}:9:3: unknown-key: `exproted` isn't a key of an activity, so it is ignored: write `exported`.\n"
         "    exproted = true\n"
     )
-    assert main(path, json=True) == 1
-    rows = json.loads(capsys.readouterr().out)
+    assert main(path, form="json") == 1
+    rows = json.loads(capsys.readouterr().out)["findings"]
     assert [(it["file"], it["line"], it["column"], it["rule"]) for it in rows] == [(str(path), 2, 1, "unknown-key"), (str(path), 9, 3, "unknown-key")]
 
 
@@ -279,6 +280,13 @@ def test_the_mode_that_was_meant(value: str, name: str | None) -> None:
     assert mode_meant(value) == name
 
 
-def test_findings_are_sorted_and_told_once() -> None:
-    assert sorted([Finding(2, 1, "host", "b"), Finding(1, 9, "key", "a", "shown")])[0].line == 1
-    assert len({Finding(1, 1, "key", "a", "x"), Finding(1, 1, "key", "a", "y")}) == 1
+def test_findings_are_sorted_and_told_once(write: Write) -> None:
+    found = lint(write(device('exproted = true\npermision = "p.X"', top='exemptt = ["x.A"]')))
+    assert [(it.rule, it.line_and_column[0]) for it in found] == [("unknown-key", 2), ("unknown-key", 9), ("unknown-key", 10)]
+    one, same = Finding("key", "com.one", "a", Place(1, 1), shown="x", tool="lint"), Finding("key", "com.one", "a", Place(1, 1), shown="y", tool="lint")
+    assert len({one, same}) == 1
+
+
+def test_a_finding_names_whose_it_is(write: Write) -> None:
+    found = lint(write(device('exproted = true', top='browser = "com.onee"', end=f'[[package]]\nkey = "k"\n{TWO}')))
+    assert [(it.rule, it.about) for it in found] == [("spelling", "device.toml"), ("unknown-key", "com.one/com.one.C"), ("key", "com.two")]

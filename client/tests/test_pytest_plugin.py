@@ -35,14 +35,14 @@ def test_the_failing_suite_names_the_reasons() -> None:
     said = [it.removeprefix("E").strip() for it in ran.out.splitlines() if it.startswith("E  ")]
     assert said[:9] == [
         "AssertionError: com.browser's start didn't open com.photos/.Album: it opened com.browser/.Page.",
-        "intent: -a android.intent.action.VIEW -d https://www.photos.example/album/cats -f NEW_TASK",
+        "intent: Intent(action='android.intent.action.VIEW', data='https://www.photos.example/album/cats', flags=('NEW_TASK',))",
         "com.browser/.Page      reached",
         "com.browser/.Settings  it has no intent filter, so only its name reaches it",
-        "-> name it in the intent (`-n com.browser/.Settings`)",
+        "-> name it in the intent (`component='com.browser/.Settings'`)",
         "com.photos/.Viewer     its filter takes types alone (image/*), and the intent has a URI of the scheme https",
         "-> give it a filter with this scheme in `data`, or ask by another URI",
         "com.photos/.Album      not approved for www.photos.example, and no default browser is set",
-        '-> `amctl link com.photos www.photos.example`, or `browser = "com.photos"` in the device file',
+        "-> `device.system.link('com.photos', 'www.photos.example')`, or `browser = \"com.photos\"` in the device file",
     ]
     assert "AssertionError: com.browser's intent doesn't reach com.photos/.Viewer, but by filters / scheme and not by host." in said
     assert "AssertionError: com.browser's intent reaches com.browser/.Page, and shouldn't." in said
@@ -93,6 +93,27 @@ def test_a_test_without_a_device_file_is_told_what_to_do(tmp_path: Path) -> None
     assert "no device file for test_it.py::test_it: put a device.toml beside the test, mark it by @pytest.mark.am_device" in ran.out
 
 
+def test_two_devices_in_one_test(tmp_path: Path) -> None:
+    for name in ("device", "orders"):
+        (tmp_path / f"{name}.toml").write_bytes((EXAMPLES / f"{name}.toml").read_bytes())
+    (tmp_path / "test_it.py").write_text(
+        "kept = []\n\n\n"
+        "def test_both(am_device, am_open):\n"
+        "    other, third = am_open('orders.toml', at=5, store='rows'), am_open('device.toml')\n"
+        "    kept.extend([am_device, other, third])\n"
+        "    other.system.tick()\n"
+        "    am_device.system.link('com.photos', 'www.photos.example')\n"
+        "    assert [it.system.status().history for it in kept] == [1, 1, 0]\n"
+        "    assert other.system.status().moment == 5\n\n\n"
+        "def test_they_are_closed():\n"
+        "    assert [it._transport._program.poll() for it in kept] == [0, 0, 0]\n",
+        encoding="utf-8",
+    )
+    ran = run_pytest(cwd=tmp_path)
+    assert "2 passed" in ran.out, ran.out
+    assert (tmp_path / "rows").is_file()
+
+
 def test_what_is_asserted_is_given_back(photos: Device, orders: Device) -> None:
     placed = opened(photos.app("com.browser"), LINK, "com.browser/.Page")
     assert (placed.instance, placed.placed) == (1, "fresh")
@@ -118,7 +139,7 @@ def test_a_refused_start_fails_with_its_sentence(photos: Device) -> None:
 def test_an_intent_that_is_none_fails_with_its_sentence(photos: Device) -> None:
     with pytest.raises(AssertionError, match="didn't open com.browser/.Page: the data isn't a URI: it has no scheme") as raised:
         opened(photos.app("com.browser"), Intent.view("nothing"), "com.browser/.Page")
-    assert str(raised.value).splitlines()[1:] == ["intent: -a android.intent.action.VIEW -d nothing -f NEW_TASK"]
+    assert str(raised.value).splitlines()[1:] == ["intent: Intent(action='android.intent.action.VIEW', data='nothing', flags=('NEW_TASK',))"]
 
 
 def test_a_component_that_is_not_there_is_said(photos: Device) -> None:

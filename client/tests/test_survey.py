@@ -11,6 +11,7 @@ import time
 import xml.etree.ElementTree as ElementTree
 from collections.abc import Callable, Iterator
 from pathlib import Path
+from typing import Any
 
 import pytest
 
@@ -20,12 +21,12 @@ from amctl.devicefile import DeviceFile
 from amctl.errors import BadWords
 from amctl.find import find_am
 from amctl.survey import Asked, jobs, links, made, main, mapping, picture
-from amctl.survey.asking import Copy, reach
+from amctl.survey.asking import Copy, Sessions, reach
 from amctl.survey.inputs import App
 from conftest import CLIENT, PATIENCE_SECONDS, Ran
 
 Amctl = Callable[..., Ran]
-RESULTS = ("exposed.csv", "links.csv", "reach.csv", "reach.svg", "unreadable.csv")
+RESULTS = ("exposed.csv", "left-out.csv", "links.csv", "reach.csv", "reach.svg", "unreadable.csv")
 VIEW = 'action = ["android.intent.action.VIEW"], category = ["android.intent.category.DEFAULT", "android.intent.category.BROWSABLE"]'
 BANK = f"""
 package = "com.bank"
@@ -211,9 +212,9 @@ class Stopped(BaseException):
 
 
 @pytest.mark.parametrize("step", [0, 3, 9, 14])
-def test_what_was_interrupted_goes_on(amctl: Amctl, four: Path, tmp_path: Path, monkeypatch: pytest.MonkeyPatch, step: int) -> None:
+def test_what_was_interrupted_goes_on(four: Path, tmp_path: Path, monkeypatch: pytest.MonkeyPatch, step: int) -> None:
     """Ends just before something is in its place: one of twelve jobs, or one of the results."""
-    amctl("survey", "apps", "--jobs", "1", "--into", "whole")
+    main(Asked(four, into=tmp_path / "whole"))
     left = [step]
     replaced = os.replace
 
@@ -231,7 +232,7 @@ def test_what_was_interrupted_goes_on(amctl: Amctl, four: Path, tmp_path: Path, 
     assert len(before) == min(step, 12)
     assert all(isinstance(json.loads(it.read_bytes()), dict) for it in (tmp_path / "half" / "done").glob("*/*.json"))
     assert sum((tmp_path / "half" / it).exists() for it in RESULTS) == max(0, step - 12)
-    assert amctl("survey", "apps", "--jobs", "2", "--into", "half").status == 0
+    assert main(Asked(four, into=tmp_path / "half")) == 0
     assert results(tmp_path / "half") == results(tmp_path / "whole")
     # what was there wasn't written again, and nothing else is left
     assert before.items() <= done_files(tmp_path / "half").items()
@@ -269,6 +270,31 @@ def test_a_second_run_asks_nothing(four: Path, tmp_path: Path, monkeypatch: pyte
     monkeypatch.setattr(mapping, "run_job", ran.append)
     assert main(asked) == 0
     assert (results(tmp_path / "found"), capsys.readouterr().out, ran) == (first, said, [])
+
+
+def test_another_program_is_asked_anew(four: Path, tmp_path: Path, monkeypatch: pytest.MonkeyPatch) -> None:
+    other = tmp_path / "am"
+    other.write_text(f'#!/bin/sh\nexec "{find_am()}" "$@"\n', encoding="utf-8")
+    other.chmod(0o755)
+    (tmp_path / "till.toml").write_text(TILL, encoding="utf-8")
+    ran: list[str] = []
+
+    def run_job(job: jobs.Job, sessions: Sessions | None = None) -> dict[str, Any]:
+        ran.append(type(job).__name__)
+        return jobs.run_job(job, sessions)
+
+    monkeypatch.setattr(mapping, "run_job", run_job)
+    # on one device `am` takes them all at once, and is asked of none by itself
+    one: dict[str, int] = {"AskOne": 4}
+    each: dict[str, int] = {"Accept": 4, "AskEach": 4}
+    for device, is_each, asks in ((None, False, one), (tmp_path / "till.toml", True, each)):
+        done = []
+        for am in (None, None, other):
+            ran.clear()
+            main(Asked(four, device, is_each, tmp_path / f"found-{is_each}", am=am))
+            done.append({name: ran.count(name) for name in dict.fromkeys(ran)})
+        # what a program said isn't what another one would say; an app that was read is read
+        assert done == [{"Read": 4, **asks}, {}, asks]
 
 
 def test_a_changed_app_is_read_again(amctl: Amctl, four: Path, tmp_path: Path) -> None:
@@ -341,10 +367,18 @@ def test_an_xml_manifest_is_an_app(amctl: Amctl, tmp_path: Path) -> None:
     (apps / "decoded").mkdir()
     (apps / "decoded" / "other.xml").write_text("<resources/>", encoding="utf-8")
     text = '<manifest xmlns:android="http://schemas.android.com/apk/res/android" package="com.xml"><application>'
-    text += '<service android:name=".S" android:exported="true"/></application></manifest>'
+    text += '<service android:name=".S" android:exported="true"/><provider android:name=".P" android:exported="true"/></application></manifest>'
     (apps / "decoded" / "AndroidManifest.xml").write_text(text, encoding="utf-8")
-    assert amctl("survey", "apps", "--jobs", "1").status == 0
-    assert lines(tmp_path / "survey", "reach.csv") == [HEAD, "com.news,com.xml,service,1,1,0,0,0,0", "com.xml,com.news,receiver,1,1,0,0,0,0"]
+    said = "amctl: 1 thing wasn't looked at in 1 app, since a device file can't say that: survey/left-out.csv has each.\n"
+    for _ in range(2):
+        # also where it was read before
+        ran = amctl("survey", "apps", "--jobs", "1")
+        assert (ran.status, ran.err) == (0, said)
+        assert lines(tmp_path / "survey", "reach.csv") == [HEAD, "com.news,com.xml,service,1,1,0,0,0,0", "com.xml,com.news,receiver,1,1,0,0,0,0"]
+        assert lines(tmp_path / "survey", "left-out.csv") == [
+            "file,place,what",
+            "decoded/AndroidManifest.xml,com.xml.P,left out provider: a device file has no providers",
+        ]
 
 
 def refused(amctl: Amctl, tmp_path: Path, *words: str) -> str:
@@ -419,6 +453,33 @@ def test_a_session_that_has_answered_enough_is_followed_by_another(monkeypatch: 
     assert len(opened) == 4
 
 
+def test_jobs_on_one_device_share_its_session(four: Path, tmp_path: Path, monkeypatch: pytest.MonkeyPatch) -> None:
+    opened: list[str] = []
+
+    def counted(text: str, am: Path | None) -> Device:
+        opened.append(text)
+        return real(text, am)
+
+    real = made.opened
+    monkeypatch.setattr("amctl.survey.asking.opened", counted)
+    monkeypatch.setattr("amctl.survey.made.opened", counted)
+    main(Asked(four, into=tmp_path / "found"))
+    # all apps at once on a bare device, the device that is surveyed, and its session
+    assert len(opened) == 3
+    # what is kept of each app is the same as if each had been asked by itself
+    own = [jobs.run_job(jobs.AskOne(it, opened[-1], None, "")) for it in made.names_of(opened[-1])]
+    with Sessions() as sessions:
+        assert [jobs.run_job(jobs.AskOne(it, opened[-1], None, ""), sessions) for it in made.names_of(opened[-1])] == own
+    assert len(opened) == 3 + len(own) + 1
+
+
+def test_an_app_that_am_refuses_takes_none_of_the_others_with_it(four: Path, tmp_path: Path) -> None:
+    (four / "bad.toml").write_text('package = "com.bad"\nactivity = [{ name = 1 }]\n', encoding="utf-8")
+    assert main(Asked(four, into=tmp_path / "found")) == 1
+    unreadable = lines(tmp_path / "found", "unreadable.csv")
+    assert len(unreadable) == 2 and unreadable[1].startswith("bad.toml,")
+
+
 def test_the_links_of_filters_are_their_combinations() -> None:
     row = '{ scheme = "https" }, { scheme = "app" }, { host = "*.a.example", port = 80 }, { host = "b.example", pathPrefix = "/x y" }, { path = "/p" }'
     text = f'package = "com.a"\nactivity = [{{ name = ".A", exported = true, intent-filter = [{{ {VIEW}, data = [{row}] }}] }}]\n'
@@ -447,7 +508,7 @@ def test_an_app_that_its_copy_refuses_is_unreadable() -> None:
     app = App("a.toml", "com.news", made.written(DeviceFile.parse(Path("a"), NEWS).document))
     empty = App("b.toml", "com.empty", made.written(DeviceFile.parse(Path("b"), EMPTY).document))
     device = made.device_of(made.parsed(made.BARE), [app, empty])
-    found = jobs.AskEach(app, device, None, "").run()
+    found = jobs.run_job(jobs.AskEach(app, device, None, ""))
     assert found.keys() == {"file", "reason"} and found["reason"].endswith("(duplicate com.news)")
 
 
@@ -462,15 +523,28 @@ def test_a_key_that_the_device_has_is_given_to_no_app() -> None:
         assert len({it.key for it in device.file.packages}) == 2
 
 
+def read_terminal(master: int) -> str:
+    """All that a terminal shows; a piece of it may end inside a character."""
+    pieces = []
+    with open(master, "rb", buffering=0) as shown:
+        try:
+            while piece := shown.read(65536):
+                pieces.append(piece)
+        except OSError:
+            # nobody writes there any more
+            pass
+    return b"".join(pieces).decode()
+
+
 def test_a_terminal_shows_the_progress(four: Path, tmp_path: Path) -> None:
     environment = {**os.environ, "PYTHONPATH": str(CLIENT), "AM": str(find_am()), "TERM": "xterm"}
     master, slave = pty.openpty()
     words = [sys.executable, "-m", "amctl", "survey", "apps", "--jobs", "2"]
-    ran = subprocess.run(words, cwd=tmp_path, env=environment, stdout=subprocess.PIPE, stderr=slave, timeout=PATIENCE_SECONDS)
-    os.close(slave)
-    shown = os.read(master, 65536).decode()
-    os.close(master)
-    assert (ran.returncode, ran.stdout.decode()) == (0, TABLE.lstrip())
+    with subprocess.Popen(words, cwd=tmp_path, env=environment, stdout=subprocess.PIPE, stderr=slave, text=True) as ran:
+        os.close(slave)
+        shown = read_terminal(master)
+        said = ran.communicate(timeout=PATIENCE_SECONDS)[0]
+    assert (ran.returncode, said) == (0, TABLE.lstrip())
     assert words_survey.READING in shown and "4/4" in shown
 
 

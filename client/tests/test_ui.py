@@ -3,7 +3,6 @@ import shlex
 import signal
 import socket
 import subprocess
-import sys
 from collections.abc import Iterator
 from contextlib import closing
 from pathlib import Path
@@ -12,10 +11,10 @@ from typing import Any
 import pytest
 
 from amctl import Device, Intent, IntentFilter, Refusal
-from amctl.find import find_am
 from amctl.results import Entry
-from conftest import CLIENT, EXAMPLES, run_python
+from conftest import EXAMPLES, port_of, run_python, started
 
+pytest.importorskip("httpx", reason="Debian's python3-httpx isn't installed")
 pytest.importorskip("starlette", reason="Debian's python3-starlette isn't installed")
 pytest.importorskip("uvicorn", reason="Debian's python3-uvicorn isn't installed")
 pytest.importorskip("jinja2", reason="Debian's python3-jinja2 isn't installed")
@@ -99,6 +98,17 @@ def test_an_approval_turns_the_answer_round_on_a_copy_alone(page: Page) -> None:
     assert page.ask(changes=[APPROVAL])["line"] == "com.photos/.Album opens."
     assert page.ask()["line"] == "com.browser/.Page opens."
     assert page.device.system.status().history == 0
+
+
+def test_a_tie_is_the_user_s_choice(tmp_path: Path) -> None:
+    activity = '[[package.manifest.activity]]\nname = ".A"\nexported = true\n'
+    activity += 'intent-filter = [{ action = ["x.A"], category = ["android.intent.category.DEFAULT"] }]\n'
+    file = tmp_path / "device.toml"
+    packages = [f'[[package]]\nkey = "k{it}"\n[package.manifest]\npackage = "com.p{it}"\n{activity}' for it in (1, 2, 3)]
+    file.write_text('system_key = "s"\n' + "".join(packages), encoding="utf-8")
+    with closing(Page(Device.open(file))) as page:
+        assert page.ask(**{"from": "com.p1", "action": "x.A", "data": ""})["line"] == "The user would choose between com.p1/.A, com.p2/.A and com.p3/.A."
+        assert page.ask(**{"from": "com.p1", "action": "x.B", "data": ""})["line"] == "Nobody gets it."
 
 
 def test_a_copy_has_what_the_history_did(page: Page) -> None:
@@ -308,11 +318,8 @@ def test_who_may_reach_a_component_is_said(tmp_path: Path) -> None:
 
 
 def test_a_server_that_is_gone_is_said() -> None:
-    program = subprocess.Popen(
-        [sys.executable, "-m", "amctl", "serve", str(EXAMPLES / "orders.toml"), "--am", str(find_am())], cwd=CLIENT, stdout=subprocess.PIPE, text=True
-    )
-    assert program.stdout is not None
-    url = f"http://127.0.0.1:{program.stdout.readline().rpartition(':')[2].strip()}"
+    program = started("serve", str(EXAMPLES / "orders.toml"))
+    url = f"http://127.0.0.1:{port_of(program)}"
     with closing(Page(Device.connect(url, EXAMPLES / "orders.toml"), url)) as page:
         assert page.get("alive") == {"history": 0}
         program.terminate()
@@ -350,9 +357,7 @@ def test_missing_packages_are_said() -> None:
 
 @pytest.mark.parametrize("number", [signal.SIGINT, signal.SIGTERM, signal.SIGHUP])
 def test_nothing_is_left_running(number: signal.Signals) -> None:
-    program = subprocess.Popen(
-        [sys.executable, "-m", "amctl", "ui", "--device", str(EXAMPLES / "device.toml"), "--am", str(find_am())], cwd=CLIENT, stdout=subprocess.PIPE, text=True
-    )
+    program = started("ui", "--device", str(EXAMPLES / "device.toml"))
     assert program.stdout is not None
     assert program.stdout.readline().startswith("the page is at http://127.0.0.1:")
     children = [int(it) for it in Path(f"/proc/{program.pid}/task/{program.pid}/children").read_text().split()]

@@ -11,6 +11,7 @@ from pathlib import Path
 import pytest
 
 from amctl import Device, Intent, IntentFilter
+from amctl.children import ending_with_this_process
 from amctl.find import find_am
 from conftest import CLIENT, EXAMPLES, PATIENCE_SECONDS
 
@@ -36,7 +37,7 @@ SHOT_LIMIT = 150_000
 def started(*words: str) -> Iterator[tuple["subprocess.Popen[str]", str]]:
     """A program of `amctl` with the URL or the port that it prints; it is ended after the test."""
     command = [sys.executable, "-m", "amctl", *words, "--am", str(find_am())]
-    with subprocess.Popen(command, cwd=CLIENT, stdout=subprocess.PIPE, text=True) as program:
+    with subprocess.Popen(command, cwd=CLIENT, stdout=subprocess.PIPE, text=True, preexec_fn=ending_with_this_process()) as program:
         try:
             assert program.stdout is not None
             yield program, program.stdout.readline().strip()
@@ -93,6 +94,12 @@ def at(browser: Chrome, selector: str) -> WebElement:
 
 def text(browser: Chrome, selector: str) -> str:
     return at(browser, selector).text
+
+
+def pressed(browser: Chrome, selector: str) -> bool:
+    """Presses a button, which is drawn anew now and then."""
+    at(browser, selector).click()
+    return True
 
 
 def keep(browser: Chrome, name: str) -> None:
@@ -181,8 +188,8 @@ def test_five_thousand_calls_are_scrolled(browser: Chrome) -> None:
         until(lambda: text(browser, "#entry h2") == "4999 · android · tick")
         at(browser, "#timeline").send_keys(Keys.ARROW_UP, Keys.ARROW_UP)
         until(lambda: text(browser, "#entry h2") == "4997 · com.guard · finish")
-        assert "looked at" in text(browser, "#entry") and at(browser, "#call-4997").get_attribute("aria-selected") == "true"
-        browser.find_elements(By.CSS_SELECTOR, "#entry .buttons:nth-of-type(1) button")[0].click()
+        until(lambda: "looked at" in text(browser, "#entry") and at(browser, "#call-4997").get_attribute("aria-selected") == "true")
+        until(lambda: pressed(browser, "#entry .buttons:nth-of-type(1) button"))
         until(lambda: text(browser, "#entry h2") == "4996 · com.shop · send")
         keep(browser, "history")
         step = "return document.activeElement.dataset.step"

@@ -1,11 +1,12 @@
 """The sentences: none is missing that docs/HTTP.md, docs/COMMANDS.md and docs/DEVICE.md ask for, and each says what to do."""
 import re
 from pathlib import Path
+from typing import Any
 
 import pytest
 
-from amctl import Device, DeviceFile, Intent, words
-from amctl.results import Account, Entry, Placed
+from amctl import Device, DeviceFile, Intent, Refusal, words
+from amctl.results import Account, Advanced, Entry, Placed
 from amctl.words import About, Asked
 from conftest import EXAMPLES, TOP
 
@@ -137,7 +138,7 @@ def test_every_fault_of_a_body_in_the_document_is_tried_above() -> None:
     assert rules == tried
 
 
-@pytest.mark.parametrize("status", sorted(set(re.findall(r"^\| (\d+)(?:, \d+)? \| .* \|$", section(COMMANDS, "## A session", "## A drill"), re.M))))
+@pytest.mark.parametrize("status", sorted(set(re.findall(r"^\| (\d+) \| .* \|$", section(COMMANDS, "## Exit statuses", "## Keys"), re.M))))
 def test_every_ending_has_a_sentence(status: str) -> None:
     found = words.ending(int(status), "am: session ended: cut" if status == "1" else "am: something")
     assert found.says and found.change
@@ -202,6 +203,90 @@ def test_a_reason_of_a_link(photos: Device, url: str, says: str) -> None:
     assert words.account(album, About("com.browser", "activity", Intent.view(url), photos.file)).says == f"its filter {says}"
 
 
+@pytest.mark.parametrize(
+    ("intent", "says", "change"),
+    [
+        (
+            Intent(action="VIEW", data="https://www.photos.example/album/cats"),
+            "its filter doesn't list the action VIEW, but android.intent.action.VIEW",
+            "write it as the filter does (`-a android.intent.action.VIEW`)",
+        ),
+        (
+            Intent.view("https://www.photos.example/album/cats", categories=("BROWSABLE",)),
+            "its filter doesn't list the category BROWSABLE, but android.intent.category.BROWSABLE",
+            "write it as the filter does (`-c android.intent.category.BROWSABLE`)",
+        ),
+        (
+            Intent.view("https://www.photos.example/album/cats", categories=("a.b.BROWSABLE",)),
+            "its filter doesn't list the category a.b.BROWSABLE",
+            "list the category in a filter of it, or ask without it",
+        ),
+    ],
+)
+def test_a_name_without_android_s_prefix_is_told_from_the_whole_one(photos: Device, intent: Intent, says: str, change: str) -> None:
+    found = photos.app("com.browser").explain("activity", intent)
+    album = next(it for it in found if it.to == "com.photos/com.photos.Album")
+    said = words.account(album, About("com.browser", "activity", intent, photos.file))
+    assert (said.says, said.change) == (says, change)
+
+
+def test_a_filter_without_the_prefix_is_told_too() -> None:
+    text = 'system_key = "s"\n[[package]]\nkey = "k"\n[package.manifest]\npackage = "com.x"\n'
+    text += '[[package.manifest.activity]]\nname = ".A"\nexported = true\nintent-filter = [{ action = ["VIEW", "x.Y"] }]\n'
+    file = DeviceFile.parse(Path("device.toml"), text)
+    said = words.account(Account("com.x/com.x.A", "filters", reasons=("action",)), About("com.x", "activity", Intent.view("a:b"), file))
+    assert said.says == "its filter doesn't list the action android.intent.action.VIEW, but VIEW or x.Y"
+
+
+@pytest.mark.parametrize(
+    ("fields", "says", "change"),
+    [
+        ({"intent": {"flags": ["NEW_TASK", "FLAG_ACTIVITY_CLEAR_TOP"]}}, "FLAG_ACTIVITY_CLEAR_TOP", "write CLEAR_TOP, since flags are named without FLAG_ACTIVITY_"),
+        ({"intent": {"flags": ["FLAG_RECEIVER_FOREGROUND"]}}, "FLAG_RECEIVER_FOREGROUND", "write FOREGROUND, since"),
+        ({"intent": {"flags": ["FLAG_INCLUDE_STOPPED_PACKAGES"]}}, "FLAG_INCLUDE_STOPPED_PACKAGES", "write INCLUDE_STOPPED, since"),
+        ({"intent": {"flags": ["NEWTASK"]}}, "NEWTASK", "write NEW_TASK"),
+        ({"intent": {"flags": ["FLAG_ACTIVITY_NO_HISTORY"]}}, "FLAG_ACTIVITY_NO_HISTORY", "name flags without FLAG_ACTIVITY_ or FLAG_RECEIVER_: NEW_TASK,"),
+        ({"intent": {"flags": ["NEW_TASK"]}, "flags": ["FLAG_MUTABLE"]}, "FLAG_MUTABLE", "write MUTABLE, since"),
+        ({"intent": {"flags": [5]}}, "5", "name flags without"),
+    ],
+)
+def test_a_wrong_flag_is_named(fields: dict[str, Any], says: str, change: str) -> None:
+    found = words.refusal("bad_request", "wrong_kind flags", Asked("com.x", "/v1/start", fields))
+    assert found.says == f"`{says}` isn't a flag that `am` takes"
+    assert found.change.startswith(change)
+
+
+def test_the_flags_are_those_that_am_takes(photos: Device) -> None:
+    for flag in words.INTENT_FLAGS:
+        photos.system.explain("activity", LINK.with_flag(flag))
+    for number, flag in enumerate(words.PENDING_FLAGS):
+        flags = [flag] if flag.endswith("MUTABLE") else [flag, "IMMUTABLE"]
+        photos.system.pending_get("broadcast", number, Intent(action="x.A"), flags)
+    with pytest.raises(Refusal, match="^`FLAG_ACTIVITY_NEW_TASK` isn't a flag that `am` takes: write NEW_TASK, since"):
+        photos.system.start(LINK.with_flag("FLAG_ACTIVITY_NEW_TASK"))
+
+
+def test_another_server_is_told_from_another_version() -> None:
+    other = words.refusal("Not Found", None, Asked("com.x", "/v1/start"))
+    assert other.says == "what answers isn't `am`: it refuses by 'Not Found'" and other.change.startswith("check the port and the path of the URL")
+    assert words.refusal("new_rule", "x", Asked("com.x", "/v1/start")).change.startswith("use the client of the same version")
+    assert words.ending(2, "am: usage").says == "this `am` doesn't take the words of this client"
+    for status in (1, 2):
+        found = words.ending(status, "/bin/ls: unrecognized option '--device'\nTry help")
+        assert found.says == '''the program isn't this project's `am`, and said "/bin/ls: unrecognized option '--device'"'''
+        assert found.change == "name the built `am` by --am or in the variable AM"
+
+
+def test_a_moment_of_a_clock_is_a_day_and_a_time() -> None:
+    assert words.moment(1_764_623_239_007) == "2025-12-01 21:07:19.007"
+    assert [words.moment(it) for it in (0, 10**11 - 1, 2**62)] == ["0 ms", "99999999999 ms", f"{2**62} ms"]
+    assert words.entry(Entry(0, 0, True, 1_764_623_239_007, {}, "/v1/tick", 0, 2), FILE)[1] == "2025-12-01 21:07:19.007"
+    assert words.entry(Entry(0, 0, True, 5, {}, "/v1/tick", 0, 2), FILE)[1] == "5 ms"
+    assert words.advanced(Advanced(1_764_623_249_007, 1_764_623_239_007)) == (
+        "the moment is 2025-12-01 21:07:19.007; the next deadline is 10000 ms ahead, at 2025-12-01 21:07:29.007."
+    )
+
+
 def test_several_filters_are_numbered(photos: Device) -> None:
     found = photos.app("com.browser").explain("activity", Intent.view("geo:1,2"))
     said = words.account(found[0], About("com.browser", "activity", Intent.view("geo:1,2"), photos.file))
@@ -224,12 +309,3 @@ def test_placed_says_where() -> None:
     assert words.placed(Placed(2, "fronted", 1), "com.x/com.x.Main") == (
         "com.x/.Main: its task comes to the front, and the intent isn't delivered (instance 2, task 1)"
     )
-
-
-def test_errors_have_their_sentences_from_one_place() -> None:
-    """No other module of the core raises one of its errors with a text that is written there."""
-    written = re.compile(r"""raise (?:\w+Fault|BadWords|NoServer|NoProgram|PortTaken|AmctlError|Refusal|Ended)\(\s*f?["']""")
-    core = [it for it in sorted(Path(words.__file__).parent.glob("*.py")) if it.name != "lint.py"]
-    found = {it.name: written.findall(it.read_text(encoding="utf-8")) for it in core}
-    assert len(found) > 12
-    assert not any(found.values())

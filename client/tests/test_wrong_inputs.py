@@ -29,7 +29,7 @@ CASES: dict[str, tuple[tuple[str, ...], str | None, int, str, str]] = {
     "no URI": (("why", *DEVICE, "-d", "www.photos.example"), None, 1, "the data isn't a URI: it has no scheme", "write it whole"),
     "a port of letters": (("why", *DEVICE, "http://a:x/"), None, 1, "its port isn't one", "write it whole"),
     "no type": (("why", *DEVICE, "-t", "image"), None, 1, "the type isn't a MIME type: it has no slash", "write it as in image/png"),
-    "Android's flag": (("start", *DEVICE, "-f", "FLAG_ACTIVITY_CLEAR_TOP", LINK), None, 1, "`flags` has a value", "without FLAG_ACTIVITY_"),
+    "Android's flag": (("start", *DEVICE, "-f", "FLAG_ACTIVITY_CLEAR_TOP", LINK), None, 1, "`FLAG_ACTIVITY_CLEAR_TOP` isn't a flag", "write CLEAR_TOP, since flags are named without FLAG_ACTIVITY_"),
     "a component without a slash": (("start", *DEVICE, "-n", "com.photos"), None, 1, "`component` has a value", "package/class with one slash"),
     "a component that is not there": (("start", *DEVICE, "com.photos/.Albun"), None, 1, "no enabled component com.photos/.Albun", "check the class"),
     "no activity": (("start", *DEVICE, "tel:1"), None, 1, "no activity gets the intent", "ask `amctl why` with the same intent"),
@@ -76,8 +76,6 @@ CASES: dict[str, tuple[tuple[str, ...], str | None, int, str, str]] = {
 @pytest.fixture
 def run(capsys: pytest.CaptureFixture[str], tmp_path: Path, monkeypatch: pytest.MonkeyPatch) -> Callable[..., Ran]:
     monkeypatch.chdir(tmp_path)
-    for name in ("AMCTL_DEVICE", "AMCTL_URL", "AMCTL_STORE"):
-        monkeypatch.delenv(name, raising=False)
 
     def call(*words: str) -> Ran:
         status = cli.main(words)
@@ -106,8 +104,3 @@ def test_a_port_in_use_is_said(run: Callable[..., Ran]) -> None:
         ran = run("serve", DEVICE[1], "--port", str(port))
     assert ran.status == 2
     assert ran.err == f"amctl: port {port} of 127.0.0.1 is in use: stop who listens there, take another one, or leave out --port to get a free one.\n"
-
-
-def test_there_are_thirty_and_more() -> None:
-    assert len(CASES) >= 30
-    assert len({(wrong, to_do) for _, _, _, wrong, to_do in CASES.values()}) >= 30

@@ -1,8 +1,10 @@
-"""`am start`, `am force-stop` and `am stack list`."""
+"""`am start`, `am force-stop`, `pm clear`, `am stack list` and `am get-current-user`."""
 from dataclasses import dataclass
+from typing import ClassVar
 
 from amctl import words_adb
 from amctl.adb import flags
+from amctl.adb.command import Leaves
 from amctl.adb.console import Console, Failed, NotServed, Thrown
 from amctl.adb.installed import uid_of
 from amctl.adb.intents import AskedIntent, read_intent, short
@@ -20,6 +22,8 @@ DENIALS = ("not_exported", "needs_permission")
 @dataclass(frozen=True)
 class Start:
     """`am start`. If it waits, its complaints go to standard output."""
+
+    leaves: ClassVar[Leaves] = "state"
 
     intent: AskedIntent
     waits: bool = False
@@ -45,6 +49,8 @@ class Start:
             raise Failed("Error: Can't start service with user 'all'")
         asked = self.intent.flagged(flags.NEW_TASK)
         sent = asked.sent("activity")
+        for flag in flags.dropped(self.intent.flags):
+            console.note(words_adb.dropped_flag(flag))
         if self.stops_first:
             self._stop(phone, console)
         console.say(f"Starting: {self.intent}")
@@ -85,6 +91,8 @@ class Start:
 
 @dataclass(frozen=True)
 class ForceStop:
+    leaves: ClassVar[Leaves] = "state"
+
     package: str
 
     @classmethod
@@ -101,8 +109,52 @@ class ForceStop:
 
 
 @dataclass(frozen=True)
-class StackList:
+class Clear:
+    """`pm clear`, which only stops the package: there are no data."""
 
+    leaves: ClassVar[Leaves] = "state"
+
+    package: str
+
+    @classmethod
+    def read(cls, words: Words, name: str) -> "Clear":
+        while (option := words.option()) is not None:
+            if option != "--user":
+                raise NotServed(words_adb.no_option("pm clear", option))
+            user(words.value())
+        package = words.bare()
+        if package is None:
+            raise Failed("Error: no package specified")
+        return cls(package)
+
+    def run(self, phone: Phone, console: Console) -> int:
+        if not phone.device.is_installed(self.package):
+            console.say("Failed")
+            return 1
+        _force_stop(phone, self.package)
+        console.say("Success")
+        console.note(words_adb.only_stopped(self.package))
+        return 0
+
+
+@dataclass(frozen=True)
+class CurrentUser:
+    """`am get-current-user`: there is one user."""
+
+    leaves: ClassVar[Leaves] = "nothing"
+
+    @classmethod
+    def read(cls, words: Words, name: str) -> "CurrentUser":
+        return cls()
+
+    def run(self, phone: Phone, console: Console) -> int:
+        console.say("0")
+        return 0
+
+
+@dataclass(frozen=True)
+class StackList:
+    leaves: ClassVar[Leaves] = "nothing"
     @classmethod
     def read(cls, words: Words, name: str) -> "StackList":
         what = words.bare()

@@ -1,8 +1,10 @@
 """`am broadcast`."""
 from dataclasses import dataclass
+from typing import ClassVar
 
 from amctl.adb import flags
 from amctl.adb.activities import take_common
+from amctl.adb.command import Leaves
 from amctl.adb.console import Console, Thrown
 from amctl.adb.installed import uid_of
 from amctl.adb.intents import AskedIntent, read_intent
@@ -14,6 +16,8 @@ from amctl.device import Refusal
 @dataclass(frozen=True)
 class Broadcast:
     """`am broadcast`: a normal one, since no app runs here that could pass an ordered one on."""
+
+    leaves: ClassVar[Leaves] = "state"
 
     intent: AskedIntent
     permission: str | None = None

@@ -1,5 +1,5 @@
 """Where a command prints, and the ways in which it ends early."""
-from dataclasses import dataclass
+from dataclasses import dataclass, field
 from typing import TextIO
 
 from amctl.errors import AmctlError
@@ -10,13 +10,20 @@ FAILED = 255
 
 @dataclass(frozen=True)
 class Console:
-    """Standard output and standard error. A line of adb's own may go to either, one of this client's only to the latter."""
+    """Standard output and standard error. A line of adb's own may go to either, one of this client's only to the latter.
+
+    `refused` has what wasn't served, sentence by sentence.
+    """
 
     out: TextIO
     err: TextIO
+    refused: list[str] = field(default_factory=list)
 
     def say(self, line: str = "") -> None:
         print(line, file=self.out)
+
+    def write(self, text: str) -> None:
+        self.out.write(text)
 
     def complain(self, line: str = "") -> None:
         print(line, file=self.err)
@@ -24,6 +31,12 @@ class Console:
     def note(self, sentence: str) -> None:
         """A sentence that adb wouldn't print."""
         print(f"amctl: {sentence}", file=self.err)
+
+    def refuse(self, refused: "NotServed") -> int:
+        """Says that something isn't served, and gives the status."""
+        self.refused.append(str(refused))
+        self.note(str(refused))
+        return 1
 
     def fail(self, failed: "Failed") -> int:
         """Prints how a command failed, and gives the status."""

@@ -1,8 +1,10 @@
-"""`dumpsys activity` and `dumpsys package`."""
+"""`dumpsys activity`, `dumpsys package` and `dumpsys window`."""
 from collections.abc import Callable, Iterator, Mapping
 from dataclasses import dataclass
+from typing import ClassVar
 
 from amctl import words_adb
+from amctl.adb.command import Leaves
 from amctl.adb.console import Console, NotServed
 from amctl.adb.flags import number_of
 from amctl.adb.installed import Installed, find, installed
@@ -24,6 +26,8 @@ PATH_KINDS = {"path": "LITERAL", "pathPrefix": "PREFIX", "pathPattern": "GLOB", 
 class Dump:
     """A part of `dumpsys`, of one package if one is named."""
 
+    leaves: ClassVar[Leaves] = "nothing"
+
     part: str
     package: str | None = None
 
@@ -32,9 +36,18 @@ class Dump:
         service, first, second = words.bare(), words.bare() or "", words.bare()
         if service == "activity" and first in ACTIVITY_PARTS:
             return cls(ACTIVITY_PARTS[first], second)
+        if service == "activity" and not first:
+            return cls("all")
         if service == "package" and first and not first.startswith("-"):
             return cls("package", first)
+        if service == "window" and first in WINDOW_PARTS:
+            return cls("window")
         raise NotServed(words_adb.no_dump(f"{service or ''} {first}".strip()))
+
+    @classmethod
+    def read_package(cls, words: Words, name: str) -> "Dump":
+        """`pm dump PACKAGE`."""
+        return cls("package", words.value())
 
     def run(self, phone: Phone, console: Console) -> int:
         for line in PARTS[self.part](phone, self.package):
@@ -176,6 +189,33 @@ def _filter_lines(it: Filter) -> Iterator[str]:
         yield f"mPriority={it.priority}, mHasStaticPartialTypes=false"
 
 
+def _all(phone: Phone, package: str | None) -> Iterator[str]:
+    """What `dumpsys activity` alone prints, as far as it is simulated."""
+    for part in (_broadcasts, _services, _activities):
+        yield from part(phone, package)
+        yield ""
+
+
+def _top(phone: Phone, package: str | None) -> Iterator[str]:
+    """The activity in front."""
+    for task in phone.device.system.tasks()[:1]:
+        top = task.instances[-1]
+        yield f"TASK {top.component.partition('/')[0]} id={task.task} userId=0"
+        yield f"  ACTIVITY {short(top.component)} {top.instance:x} pid=0"
+
+
+def _window(phone: Phone, package: str | None) -> Iterator[str]:
+    """The window that has the focus: that of the activity in front."""
+    yield "WINDOW MANAGER WINDOWS (dumpsys window windows)"
+    tasks = phone.device.system.tasks()
+    if not tasks:
+        yield "  mCurrentFocus=null"
+        return
+    top = tasks[0].instances[-1]
+    yield f"  mCurrentFocus=Window{{{top.instance:x} u0 {top.component}}}"
+    yield f"  mFocusedApp={_record(top, tasks[0])}"
+
+
 def _summary(intent: Intent, *, safe: bool = True) -> str:
     return summary(intent, number_of(intent.flags), has_extras=bool(intent.extras) and safe, safe=safe)
 
@@ -184,5 +224,10 @@ ACTIVITY_PARTS: Mapping[str, str] = {
     **dict.fromkeys(("activities", "a"), "activities"),
     **dict.fromkeys(("services", "s"), "services"),
     **dict.fromkeys(("broadcasts", "b"), "broadcasts"),
+    "top": "top",
 }
-PARTS: Mapping[str, Part] = {"activities": _activities, "services": _services, "broadcasts": _broadcasts, "package": _package}
+WINDOW_PARTS = ("", "windows", "w", "displays", "d")
+PARTS: Mapping[str, Part] = {
+    **{"all": _all, "activities": _activities, "services": _services, "broadcasts": _broadcasts},
+    **{"package": _package, "top": _top, "window": _window},
+}

@@ -7,12 +7,16 @@ from amctl import words_adb
 from amctl.adb.console import NotServed
 from amctl.devicefile import Kind
 
-Use = Literal["sent", "harmless", "left out"]
+Use = Literal["sent", "harmless", "dropped", "left out"]
 
 
 @dataclass(frozen=True)
 class Flag:
-    """A flag of Android's. One that is `harmless` changes nothing that is simulated; `am` has a shorter name for one that is `sent`."""
+    """A flag of Android's.
+
+    One that is `harmless` changes nothing that is simulated; what is `dropped` isn't sent, and said; `am` has a shorter name for
+    one that is `sent`.
+    """
 
     name: str
     bit: int
@@ -48,7 +52,8 @@ ACTIVITY = (
     Flag("FLAG_ACTIVITY_NO_USER_ACTION", 0x40000, "harmless", "--activity-no-user-action"),
     Flag("FLAG_ACTIVITY_NEW_DOCUMENT", 0x80000, word="--activity-clear-when-task-reset"),
     Flag("FLAG_ACTIVITY_LAUNCHED_FROM_HISTORY", 0x100000, "harmless", "--activity-launched-from-history"),
-    Flag("FLAG_ACTIVITY_RESET_TASK_IF_NEEDED", 0x200000, word="--activity-reset-task-if-needed"),
+    # a launcher sets it with each start
+    Flag("FLAG_ACTIVITY_RESET_TASK_IF_NEEDED", 0x200000, "dropped", "--activity-reset-task-if-needed"),
     Flag("FLAG_ACTIVITY_BROUGHT_TO_FRONT", 0x400000, "harmless", "--activity-brought-to-front"),
     Flag("FLAG_ACTIVITY_EXCLUDE_FROM_RECENTS", 0x800000, "harmless", "--activity-exclude-from-recents"),
     Flag("FLAG_ACTIVITY_PREVIOUS_IS_TOP", 0x1000000, word="--activity-previous-is-top"),
@@ -93,6 +98,11 @@ def names_of(flags: int, kind: Kind) -> tuple[str, ...]:
     if unknown and kind != "service":
         raise NotServed(words_adb.no_flag("an unknown flag", unknown))
     return tuple(it.sent_as for it in known if it.use == "sent")
+
+
+def dropped(flags: int) -> tuple[str, ...]:
+    """The flags of a start that aren't sent, though they are taken."""
+    return tuple(it.name for it in ACTIVITY if it.use == "dropped" and it.bit & flags)
 
 
 def number_of(names: Iterable[str]) -> int:

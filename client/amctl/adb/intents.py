@@ -1,23 +1,22 @@
 """Intents on a command line, and intents as Android prints them."""
 import dataclasses
 import re
-from collections.abc import Callable
+from collections.abc import Callable, Mapping
 from dataclasses import dataclass
 from urllib.parse import unquote
 
 from amctl import words_adb
 from amctl.adb import flags
 from amctl.adb.console import NotServed, Thrown
-from amctl.adb.options import Words, number
+from amctl.adb.options import Words, long_number, number, truth
 from amctl.android import LAUNCHER, MAIN
 from amctl.devicefile import Kind
-from amctl.intents import VIEW, Intent
+from amctl.intents import VIEW, Extra, Intent
 
-TYPED_EXTRAS = {
-    *("--ei", "--eia", "--eial", "--el", "--ela", "--elal", "--ef", "--efa", "--efal"),
-    *("--ez", "--eu", "--ecn", "--esa", "--esal"),
-}
+# of extras `am` takes texts, whole numbers and truths
+LEFT_OUT_EXTRAS = ("--eia", "--eial", "--ela", "--elal", "--ef", "--efa", "--efal", "--eu", "--ecn", "--esa", "--esal")
 FIELDS = {"-a": "action", "-d": "data", "-t": "type", "-i": "identifier", "-p": "package"}
+EXTRAS: Mapping[str, Callable[[str], Extra]] = {"-e": str, "--es": str, "--ei": number, "--el": long_number, "--ez": truth}
 HIDDEN_SCHEMES = ("tel", "sip", "sms", "smsto", "mailto", "nfc")
 AUTHORITY = re.compile(r"//([^/?#]*)")
 SHORTENED_SCHEMES = ("http", "https", "ftp", "rtsp")
@@ -60,7 +59,7 @@ class _Reader:
         self.words = words
         self.given: dict[str, str] = {}
         self.categories: list[str] = []
-        self.extras: dict[str, str] = {}
+        self.extras: dict[str, Extra] = {}
         self.flags = 0
         self.has_extras = False
 
@@ -81,15 +80,15 @@ class _Reader:
         return True
 
     def _take_extra(self, option: str) -> bool:
-        if option in TYPED_EXTRAS:
+        if option in LEFT_OUT_EXTRAS:
             raise NotServed(words_adb.no_typed_extra(option))
         if option == "--selector":
             raise NotServed(words_adb.NO_OPTIONS[option])
-        if option not in ("-e", "--es", "--esn"):
+        if option not in EXTRAS and option != "--esn":
             return False
         key = self.words.value()
-        if option != "--esn":
-            self.extras[key] = self.words.value()
+        if option in EXTRAS:
+            self.extras[key] = EXTRAS[option](self.words.value())
         # an extra without a value reads like one that isn't there
         self.has_extras = True
         return True

@@ -3,10 +3,11 @@ from collections.abc import Callable, Mapping
 from dataclasses import dataclass
 
 from amctl import words_adb
-from amctl.adb import activities, broadcasts, dumps, links, packages, resolving, services
+from amctl.adb import activities, broadcasts, dumps, keys, links, monkey, packages, resolving, services
 from amctl.adb.command import Command
 from amctl.adb.console import FAILED, Failed, NotServed
 from amctl.adb.options import Words
+from amctl.adb.properties import Properties
 
 Reader = Callable[[Words, str], Command]
 AM: Mapping[str, Reader] = {
@@ -15,10 +16,14 @@ AM: Mapping[str, Reader] = {
     **dict.fromkeys(("stopservice", "stop-service"), services.StopService.read),
     "broadcast": broadcasts.Broadcast.read,
     "force-stop": activities.ForceStop.read,
+    "get-current-user": activities.CurrentUser.read,
     "stack": activities.StackList.read,
 }
 PM: Mapping[str, Reader] = {
     "list": packages.ListPackages.read,
+    "path": packages.ApkPath.read,
+    "clear": activities.Clear.read,
+    "dump": dumps.Dump.read_package,
     "install": packages.Install.read,
     "uninstall": packages.Uninstall.read,
     **dict.fromkeys(("grant", "revoke"), packages.Grant.read),
@@ -27,16 +32,7 @@ PM: Mapping[str, Reader] = {
     "set-app-links": links.SetAppLinks.read,
     "get-app-links": links.GetAppLinks.read,
 }
-# a script asks these to see whether the device has started, and what it is
-PROPERTIES = {"ro.build.version.sdk": "31", "ro.build.version.release": "12", "sys.boot_completed": "1", "dev.bootcomplete": "1"}
 SERVICES = {"activity": ("am", AM), "package": ("pm", PM)}
-
-
-@dataclass(frozen=True)
-class Property:
-    """`getprop NAME`."""
-
-    value: str
 
 
 @dataclass(frozen=True)
@@ -47,7 +43,7 @@ class OnDevice:
     package: str | None = None
 
 
-def read_line(words: tuple[str, ...]) -> OnDevice | Property:
+def read_line(words: tuple[str, ...]) -> OnDevice | Properties:
     """What a line of the device's shell asks."""
     first, rest = words[0], words[1:]
     if first == "run-as":
@@ -59,7 +55,11 @@ def read_line(words: tuple[str, ...]) -> OnDevice | Property:
     if first == "dumpsys":
         return OnDevice(dumps.Dump.read(Words(rest, first), first))
     if first == "getprop":
-        return _property(rest)
+        return Properties.read(rest)
+    if first == "input" and rest[:1] == ("keyevent",):
+        return OnDevice(keys.KeyEvents.read(Words(rest[1:], "keyevent"), "keyevent"))
+    if first == "monkey":
+        return OnDevice(monkey.Monkey.read(Words(rest, first), first))
     raise NotServed(words_adb.no_shell_command(" ".join(words[:2]) if first == "cmd" else first))
 
 
@@ -67,6 +67,8 @@ def thrower(words: tuple[str, ...]) -> str:
     """The word that Android names if a line throws."""
     if words[0] == "run-as" and len(words) > 2:
         return thrower(words[2:])
+    if words[0] not in ("am", "pm", "cmd"):
+        return words[0]
     at = 2 if words[0] == "cmd" else 1
     return words[at] if len(words) > at else words[0]
 
@@ -90,9 +92,3 @@ def _as_package(words: tuple[str, ...]) -> OnDevice:
     if not isinstance(found, OnDevice) or isinstance(found.command, (activities.ForceStop, activities.StackList)):
         raise NotServed(words_adb.no_run_as(line[0]))
     return OnDevice(found.command, package)
-
-
-def _property(words: tuple[str, ...]) -> Property:
-    if words[:1] and words[0] in PROPERTIES:
-        return Property(PROPERTIES[words[0]])
-    raise NotServed(words_adb.no_property(words[0] if words else "", tuple(PROPERTIES)))

@@ -1,8 +1,10 @@
 """`pm set-app-links` and `pm get-app-links`."""
 from collections.abc import Iterator
 from dataclasses import dataclass
+from typing import ClassVar
 
 from amctl import words_adb
+from amctl.adb.command import Leaves
 from amctl.adb.console import Console, Failed, NotServed
 from amctl.adb.installed import Installed, find, installed
 from amctl.adb.options import Words, user
@@ -20,6 +22,8 @@ STATES = {
 
 @dataclass(frozen=True)
 class SetAppLinks:
+    leaves: ClassVar[Leaves] = "rights"
+
     package: str
     approved: bool
     hosts: tuple[str, ...]
@@ -64,6 +68,8 @@ class SetAppLinks:
 
 @dataclass(frozen=True)
 class GetAppLinks:
+    leaves: ClassVar[Leaves] = "nothing"
+
     package: str | None
 
     @classmethod

@@ -1,4 +1,5 @@
 """The words of a command, read one after the other as Android's `ShellCommand` reads them."""
+import re
 from collections.abc import Sequence
 
 from amctl import words_adb
@@ -6,6 +7,8 @@ from amctl.adb.console import NotServed, Thrown
 
 # the names of the one user that there is
 USERS = ("0", "current", "cur")
+WHOLE = re.compile(r"[+-]?[0-9]{1,30}")
+TRUTHS = {"true": True, "t": True, "false": False, "f": False}
 
 
 class Words:
@@ -64,6 +67,22 @@ def number(text: str) -> int:
     if found is None or not -(1 << 31) <= found < 1 << 31:
         raise Thrown("java.lang.NumberFormatException", f'For input string: "{text}"')
     return found
+
+
+def long_number(text: str) -> int:
+    """A number as `Long.valueOf` reads it: decimal, of 64 bits."""
+    if not WHOLE.fullmatch(text) or not -(1 << 63) <= int(text) < 1 << 63:
+        raise Thrown("java.lang.NumberFormatException", f'For input string: "{text}"')
+    return int(text)
+
+
+def truth(text: str) -> bool:
+    """A truth as `am` reads it on Android: by name, or a number that isn't 0."""
+    word = text.lower()
+    try:
+        return TRUTHS[word] if word in TRUTHS else number(word) != 0
+    except Thrown:
+        raise Thrown.argument(f"Invalid boolean value: {word}") from None
 
 
 def user(text: str) -> str:

@@ -1,12 +1,14 @@
 """The device that a command asks, and the caller."""
+import dataclasses
 import os
 import time
 from collections.abc import Mapping
-from dataclasses import dataclass
+from dataclasses import dataclass, field
 from pathlib import Path
 
 from amctl import words_adb
 from amctl.adb.console import Failed
+from amctl.address import shown
 from amctl.device import App, Device
 from amctl.errors import BadWords, NoServer
 from amctl.kept import Kept, read_kept
@@ -14,6 +16,8 @@ from amctl.where import Where
 
 SERIAL_VARIABLE = "AMCTL_SERIAL"
 CHOSEN_VARIABLE = "ANDROID_SERIAL"
+# the name that scripts give the first emulator of a machine
+EMULATOR = "emulator-5554"
 PATIENCE_SECONDS = 60.0
 PAUSE_SECONDS = 0.1
 
@@ -37,28 +41,34 @@ class Target:
 
     where: Where
     environment: Mapping[str, str]
+    # the serial that the words name
+    named: str | None = None
+
+    @property
+    def asked(self) -> str | None:
+        return self.named or self.environment.get(CHOSEN_VARIABLE) or None
 
     @property
     def serial(self) -> str:
-        """The device's name: one that is given to it, else a server's address, else the name of the device file."""
+        """The device's name: one that is given to it, or an emulator's, else a server's address, or the name of the device file."""
         given = self.environment.get(SERIAL_VARIABLE)
-        if given:
-            return given
+        if given or self.asked == EMULATOR:
+            return given or EMULATOR
         if self.where.url:
-            return self.where.url.partition("://")[2].rstrip("/") or self.where.url
+            url = shown(self.where.url)
+            return url.partition("://")[2].rstrip("/") or url
         return self._device_file().stem
 
-    def check(self, serial: str | None) -> None:
+    def check(self) -> None:
         """adb's complaint if another device is asked for."""
-        asked = serial or self.environment.get(CHOSEN_VARIABLE)
-        if asked and asked != self.serial:
-            raise Failed(f"adb: device '{asked}' not found", note=words_adb.other_serial(asked, self.serial))
+        if self.asked and self.asked != self.serial:
+            raise Failed(f"adb: device '{self.asked}' not found", note=words_adb.other_serial(self.asked, self.serial))
 
-    def open(self, package: str | None = None) -> Phone:
+    def open(self) -> Phone:
         self._device_file()
         # only one session can hold a store, so the rows are read before
         kept = Kept() if self.where.store is None else read_kept(self.where.store)
-        return Phone(self.where.open(), kept, package)
+        return Phone(self.where.open(), kept)
 
     def wait(self) -> None:
         """Returns once the device answers; a server may just be starting."""
@@ -79,5 +89,34 @@ class Target:
         return self.where.device
 
 
-def target_of(where: Where, environment: Mapping[str, str] = os.environ) -> Target:
-    return Target(where.or_environment(environment), environment)
+@dataclass
+class Connection:
+    """The device of an invocation: opened when it is first asked, and one session for all that is asked."""
+
+    target: Target
+    # what the commands so far left
+    left: set[str] = field(default_factory=set)
+    _phone: Phone | None = None
+
+    def phone(self, package: str | None = None) -> Phone:
+        if self._phone is None:
+            self._phone = self.target.open()
+        return dataclasses.replace(self._phone, package=package)
+
+    def close(self) -> None:
+        if self._phone is not None:
+            self._phone.device.close()
+            self._phone = None
+
+    @property
+    def ends(self) -> str | None:
+        """What is said of a state that ends with the session; nothing if none does."""
+        if self.target.where.url is not None:
+            return None
+        if "state" in self.left:
+            return words_adb.STATE_ENDS
+        return words_adb.RIGHTS_END if "rights" in self.left and self.target.where.store is None else None
+
+
+def target_of(where: Where, environment: Mapping[str, str] = os.environ, serial: str | None = None) -> Target:
+    return Target(where.or_environment(environment), environment, serial)

@@ -1,8 +1,10 @@
 """`pm query-activities`, `query-services`, `query-receivers` and `resolve-activity`."""
 from dataclasses import dataclass
+from typing import ClassVar
 
 from amctl import words_adb
 from amctl.adb.activities import RESOLVER
+from amctl.adb.command import Leaves
 from amctl.adb.console import Console, NotServed
 from amctl.adb.intents import AskedIntent, read_intent, short
 from amctl.adb.options import Words, number, user
@@ -37,6 +39,8 @@ class Shown:
 class Query:
     """`pm query-..`: all that an intent finds."""
 
+    leaves: ClassVar[Leaves] = "nothing"
+
     kind: Kind
     intent: AskedIntent
     shown: Shown
@@ -66,6 +70,8 @@ class Query:
 @dataclass(frozen=True)
 class Resolve:
     """`pm resolve-activity`: the one that a start would open."""
+
+    leaves: ClassVar[Leaves] = "nothing"
 
     intent: AskedIntent
     shown: Shown

@@ -1,8 +1,10 @@
 """`am startservice` and `am stopservice`."""
 from dataclasses import dataclass
+from typing import ClassVar
 
 from amctl import words_adb
 from amctl.adb.activities import take_common
+from amctl.adb.command import Leaves
 from amctl.adb.console import FAILED, Console, Failed
 from amctl.adb.installed import uid_of
 from amctl.adb.intents import AskedIntent, read_intent
@@ -17,6 +19,8 @@ NOT_RUNNING = "Service not stopped: was not running."
 
 @dataclass(frozen=True)
 class StartService:
+    leaves: ClassVar[Leaves] = "state"
+
     intent: AskedIntent
     user: str = "0"
 
@@ -59,6 +63,8 @@ class StartService:
 @dataclass(frozen=True)
 class StopService:
     """`am stopservice`, which ends with -1 on Android whatever happened."""
+
+    leaves: ClassVar[Leaves] = "state"
 
     intent: AskedIntent
     user: str = "0"

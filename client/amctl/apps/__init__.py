@@ -17,7 +17,7 @@
     toml        the text of a package
     device      the device file
     app         an app by itself
-    command     tools/device_from_apks
+    command     tools/device_from_apks, and `amctl convert`
 """
 from amctl.apps.app import App, read_app
 from amctl.apps.elements import InputFault

@@ -1,9 +1,11 @@
-"""tools/device_from_apks: what it does with its words."""
+"""tools/device_from_apks and `amctl convert`: what they do with their words."""
 import argparse
 import gc
 import json
 import resource
 import sys
+from collections.abc import Sequence
+from dataclasses import dataclass
 from pathlib import Path
 
 from amctl.apps.binary import READERS
@@ -18,7 +20,19 @@ UNREAD = 2
 LEFT_OUT = 1
 
 
-def arguments(description: str) -> argparse.Namespace:
+@dataclass(frozen=True)
+class Asked:
+    """What is converted, and how."""
+
+    inputs: Sequence[str]
+    keys: str | None = None
+    grant_all: bool = False
+    facts: str | None = None
+    strict: bool = False
+    reader: str | None = None
+
+
+def arguments(description: str) -> Asked:
     parser = argparse.ArgumentParser(
         prog="device_from_apks", description=description, formatter_class=argparse.RawDescriptionHelpFormatter
     )
@@ -28,7 +42,7 @@ def arguments(description: str) -> argparse.Namespace:
     parser.add_argument("--strict", action="store_true")
     parser.add_argument("--reader", choices=READERS)
     parser.add_argument("inputs", metavar="INPUT", nargs="+")
-    return parser.parse_args()
+    return Asked(**vars(parser.parse_args()))
 
 
 def given_keys(path: str | None) -> dict[str, str]:
@@ -43,7 +57,7 @@ def given_keys(path: str | None) -> dict[str, str]:
         raise InputFault("it isn't UTF-8") from error
 
 
-def add_inputs(device: Device, report: Report, inputs: list[str], reader: str | None) -> None:
+def add_inputs(device: Device, report: Report, inputs: Sequence[str], reader: str | None) -> None:
     """Adds every file of the inputs to the device, and reports those that can't be read."""
     for given in inputs:
         try:
@@ -71,14 +85,18 @@ def write_facts(device: Device, path: str, report: Report) -> None:
 
 
 def main(description: str) -> int:
-    options = arguments(description)
+    return convert(arguments(description))
+
+
+def convert(options: Asked) -> int:
+    """Writes the device file to standard output, and what is left out to standard error."""
     gc.disable()  # what the readers build has no cycles, and looking for them takes a third of the time
     resource.setrlimit(resource.RLIMIT_DATA, (MEMORY_LIMIT, MEMORY_LIMIT))
     report = Report(sys.stderr)
     try:
         keys = Keys(given_keys(options.keys))
     except InputFault as why:
-        report.fault(options.keys, str(why))
+        report.fault(str(options.keys), str(why))
         return UNREAD
     device = Device(report, keys, options.grant_all)
     add_inputs(device, report, options.inputs, options.reader)

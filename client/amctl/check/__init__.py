@@ -9,47 +9,54 @@
     exposed     what any app reaches
     caught      what others get of the app's calls, by `history` or its `queries`
     names       names that collide
-    report      the findings as a table and as JSON; `sarif` and `junit` write the other forms
+    left_out    what the converter leaves out
+    merged      one finding for the links of a host
+
+What is found is told by `amctl.findings`, as of `amctl lint`.
 """
 import sys
+import tempfile
 from collections.abc import Iterator, Sequence
+from contextlib import contextmanager
 from dataclasses import dataclass
 from pathlib import Path
-from typing import TextIO, get_args
+from typing import TextIO
 
 from amctl import words_check
-from amctl.check import caught, exposed, history, junit, links, names, resolution, sarif
+from amctl.check import caught, exposed, history, left_out, links, names, resolution
 from amctl.check.app import App, Unreadable, read
 from amctl.check.asking import Copies, caller_name
 from amctl.check.assetlinks import Statements, read_statements
-from amctl.check.baseline import read_ids
 from amctl.check.facts import read_facts
-from amctl.check.finding import SEVERITIES, Finding, Severity
 from amctl.check.history import Call
 from amctl.check.intents import questions
-from amctl.check.report import Report, ordered, write_json, write_text
 from amctl.device import Refusal
 from amctl.devicefile import DeviceFile
 from amctl.errors import BadWords
+from amctl.findings.command import Telling
+from amctl.findings.finding import Finding
+from amctl.findings.report import Report, ordered
+from amctl.findings.rule import Severity
 from amctl.transport import body_of
 
 __all__ = ["Asked", "Finding", "Report", "Severity", "check", "main"]
 
-FORMATS = ("text", "json", "sarif", "junit")
 MOST_PACKAGES = 256
 # an installation is one request, and its body has at most so many bytes
 MOST_BODY = 65_536
-FOUND, UNUSABLE = 1, 2
+UNUSABLE = 2
+# the device of a check without one
+BARE = 'system_key = "system"\n'
 # how `am` refuses an app that is too large, or that it can't read
 UNFIT = ("bad_manifest", "bad_request", "over_limit")
 
 
 @dataclass(frozen=True)
 class Asked:
-    """What is checked on which device, and what else is known."""
+    """What is checked on which device, and what else is known. Without a device the app is alone."""
 
     app: Path
-    device: Path
+    device: Path | None = None
     facts: Path | None = None
     assetlinks: Path | None = None
     history: Path | None = None
@@ -58,16 +65,32 @@ class Asked:
 
 def check(asked: Asked) -> Report:
     """What is found. An app that can't be read is a finding of its own."""
-    device = DeviceFile.read(asked.device)
+    with _device(asked) as path:
+        return _checked(asked, DeviceFile.read(path))
+
+
+@contextmanager
+def _device(asked: Asked) -> Iterator[Path]:
+    """The device file, or one without packages."""
+    if asked.device is not None:
+        yield asked.device
+        return
+    with tempfile.TemporaryDirectory(prefix="amctl_check_") as folder:
+        path = Path(folder) / "device.toml"
+        path.write_text(BARE, encoding="utf-8")
+        yield path
+
+
+def _checked(asked: Asked, device: DeviceFile) -> Report:
     facts, statements = read_facts(asked.facts), None if asked.assetlinks is None else read_statements(asked.assetlinks)
     try:
         app = read(asked.app, facts)
         _refuse(app, device)
-        calls = None if asked.history is None else history.calls_of(asked.history, app.package, asked.device, asked.am)
+        calls = None if asked.history is None else history.calls_of(asked.history, app.package, device.path, asked.am)
         found = ordered(_findings(asked, app, device, statements, calls))
+        return Report(asked.app, asked.device, found, left_out=len(app.left_out))
     except Unreadable as fault:
-        found = (Finding("unreadable", asked.app.name, str(fault), fault.place),)
-    return Report(asked.app, asked.device, found)
+        return Report(asked.app, asked.device, (Finding("unreadable", asked.app.name, str(fault), fault.place),))
 
 
 def _refuse(app: App, device: DeviceFile) -> None:
@@ -82,8 +105,9 @@ def _refuse(app: App, device: DeviceFile) -> None:
 
 
 def _findings(asked: Asked, app: App, device: DeviceFile, statements: Statements | None, calls: Sequence[Call] | None) -> Iterator[Finding]:
+    yield from left_out.check(app)
     yield from names.check(app, device)
-    with Copies(asked.device, asked.am, caller_name(device, app.package)) as copies:
+    with Copies(device.path, asked.am, caller_name(device, app.package)) as copies:
         _install(copies, app)
         others = [it for package in device.packages for it in package.components]
         touched = resolution.concerned(copies, app, questions([*app.components, *others]))
@@ -104,37 +128,13 @@ def _install(copies: Copies, app: App) -> None:
         if refused.rule == "bad_manifest" and refused.name:
             raise app.refused(refused.name) from None
         if refused.rule in UNFIT:
-            raise Unreadable(words_check.refused(refused.sentence)) from None
+            raise Unreadable(words_check.refused(refused.told)) from None
         raise
 
 
 def main(asked: Asked, *, severity: str = "error", form: str = "text", baseline: Path | None = None, out: TextIO | None = None) -> int:
     """Prints the findings, and gives the exit status: 1 from the chosen severity on, and 2 for an app that can't be used."""
-    least = _severity(severity)
-    if form not in FORMATS:
-        raise BadWords(words_check.no_format(form, FORMATS))
-    known = frozenset[str]() if baseline is None else read_ids(baseline)
+    telling = Telling.of(severity, form, baseline)
     whole = check(asked)
-    report = whole.without(known)
-    _write(report, form, least, out or sys.stdout)
-    if any(it.rule == "unreadable" for it in whole.findings):
-        return UNUSABLE
-    return FOUND if report.has(least) else 0
-
-
-def _severity(word: str) -> Severity:
-    found = next((it for it in SEVERITIES if it == word), None)
-    if found is None:
-        raise BadWords(words_check.no_severity(word, get_args(Severity)))
-    return found
-
-
-def _write(report: Report, form: str, least: Severity, out: TextIO) -> None:
-    if form == "json":
-        write_json(report, out)
-    elif form == "sarif":
-        sarif.write(report, out)
-    elif form == "junit":
-        junit.write(report, least, out)
-    else:
-        write_text(report, out)
+    status = telling.tell(whole, out or sys.stdout)
+    return UNUSABLE if any(it.rule == "unreadable" for it in whole.findings) else status

@@ -32,6 +32,8 @@ class App:
     text: str = dataclasses.field(repr=False)
     facts: Facts
     has_places: bool = True
+    # of each thing that the converter left out or wrote otherwise, the component or the package, and what it was
+    left_out: tuple[tuple[str, str], ...] = ()
 
     @functools.cached_property
     def file(self) -> DeviceFile:
@@ -89,4 +91,5 @@ def _converted(path: Path, facts: Facts) -> App:
     except OSError as fault:
         raise Unreadable(f"{path}: {fault.strerror}") from None
     own = package_facts(found.facts.to_json())
-    return App(path, found.package, found.manifest, facts.with_package(found.package, own), has_places=False)
+    left_out = tuple((it.place, it.words) for it in found.left_out)
+    return App(path, found.package, found.manifest, facts.with_package(found.package, own), has_places=False, left_out=left_out)

@@ -9,7 +9,7 @@ from typing import Any
 from urllib.parse import urlsplit
 
 from amctl import words_check
-from amctl.check.facts import read_json
+from amctl.files import read_json
 from amctl.errors import BadWords
 
 RELATION = "delegate_permission/common.handle_all_urls"

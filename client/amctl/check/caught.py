@@ -5,7 +5,7 @@ from typing import Any, Literal
 from amctl import words, words_check
 from amctl.check.app import App, Unreadable
 from amctl.check.asking import Copies, Exchange, Outcome
-from amctl.check.finding import Finding
+from amctl.findings.finding import Finding
 from amctl.check.history import Call
 from amctl.check.intents import STARTED_ONCE
 from amctl.check.made import at
@@ -75,7 +75,7 @@ def _ask(copies: Copies, app: App, index: int, intent: Intent, kind: Kind) -> Ex
         return copies.ask("after", kind, intent, caller=app.package)
     except Refusal as refused:
         if refused.rule == "bad_request":
-            raise Unreadable(words_check.bad_query(refused.sentence), app.place(f"queries.intent[{index}]")) from None
+            raise Unreadable(words_check.bad_query(refused.told), app.place(f"queries.intent[{index}]")) from None
         raise
 
 

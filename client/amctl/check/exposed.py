@@ -4,7 +4,7 @@ from collections.abc import Iterator
 from amctl import words, words_check
 from amctl.check.app import App
 from amctl.check.asking import Copies, Exchange
-from amctl.check.finding import Finding
+from amctl.findings.finding import Finding
 from amctl.check.intents import STARTED_ONCE
 from amctl.check.made import at
 from amctl.devicefile import Component

@@ -7,6 +7,7 @@ from typing import Any
 
 from amctl import words_check
 from amctl.errors import BadWords
+from amctl.files import read_json
 
 
 @dataclass(frozen=True)
@@ -52,13 +53,3 @@ def package_facts(fields: Mapping[str, Any]) -> PackageFacts:
     # Android takes a level that isn't stated as normal; one that is null isn't known
     permissions = {str(it["name"]): str(it.get("protectionLevel", "normal") or "") for it in fields.get("permissions") or ()}
     return PackageFacts(permissions, tuple(str(it) for it in fields.get("autoVerify") or ()))
-
-
-def read_json(path: Path, what: str, wanted: str) -> Any:
-    """A file's JSON, or why it can't be used."""
-    try:
-        return json.loads(path.read_bytes())
-    except OSError as fault:
-        raise BadWords(words_check.bad_file(path, what, fault.strerror or str(fault), wanted)) from None
-    except ValueError as fault:
-        raise BadWords(words_check.bad_file(path, what, str(fault), wanted)) from None

@@ -5,9 +5,10 @@ from amctl import words, words_check
 from amctl.check.app import App
 from amctl.check.assetlinks import Statements
 from amctl.check.asking import Copies, Outcome
-from amctl.check.finding import Finding
+from amctl.findings.finding import Finding
 from amctl.check.intents import WEB, Question
 from amctl.check.made import at
+from amctl.check.merged import Said, of_hosts
 from amctl.check.resolution import why_not
 from amctl.check.witness import takes_host
 from amctl.intents import VIEW
@@ -56,6 +57,10 @@ def _wildcards(links: Sequence[Question], host: str) -> Iterator[str]:
 
 
 def check(copies: Copies, app: App, links: Sequence[Question], statements: Statements | None) -> Iterator[Finding]:
+    yield from of_hosts(_said(copies, app, links, statements))
+
+
+def _said(copies: Copies, app: App, links: Sequence[Question], statements: Statements | None) -> Iterator[Said]:
     unsaid, unasked = unstated(app, links, statements), unverified(app, links)
     # with statements it is known which hosts would be approved; without them all are taken to be
     unapproved = unsaid | unasked if statements else set()
@@ -64,10 +69,10 @@ def check(copies: Copies, app: App, links: Sequence[Question], statements: State
         for question in (it for it in links if _host(it) == host):
             about, path = words.intent(question.intent), question.filter.at
             if host in unsaid:
-                yield at(app, path, "link-unstated", about, words_check.link_unstated(host, app.package))
+                yield question.intent, at(app, path, "link-unstated", about, words_check.link_unstated(host, app.package))
             if host in unasked:
-                yield at(app, path, "link-unverified", about, words_check.link_unverified(host))
-            yield _compared(copies, app, question)
+                yield question.intent, at(app, path, "link-unverified", about, words_check.link_unverified(host))
+            yield question.intent, _compared(copies, app, question)
         copies.approve(app.package, host, approved=False)
 
 

@@ -1,7 +1,7 @@
 """Makes findings: with their place in the app's manifest."""
 from amctl.check.app import App
 from amctl.check.asking import Exchange
-from amctl.check.finding import Finding
+from amctl.findings.finding import Finding
 
 
 def at(app: App, path: str, rule: str, about: str, message: str, *exchanges: Exchange | None) -> Finding:

@@ -3,7 +3,7 @@ from collections.abc import Iterator
 
 from amctl import words_check
 from amctl.check.app import App
-from amctl.check.finding import Finding
+from amctl.findings.finding import Finding
 from amctl.check.made import at
 from amctl.devicefile import SYSTEM, DeviceFile, Package
 from amctl.words import shown

@@ -4,9 +4,10 @@ from collections.abc import Iterator, Sequence
 from amctl import words, words_check
 from amctl.check.app import App
 from amctl.check.asking import Copies, Exchange, Outcome
-from amctl.check.finding import Finding
+from amctl.findings.finding import Finding
 from amctl.check.intents import Question
 from amctl.check.made import at
+from amctl.check.merged import Said, of_hosts
 from amctl.device import Refusal
 from amctl.results import Account
 
@@ -42,13 +43,17 @@ def _accounts(copies: Copies, app: App, question: Question) -> Sequence[Account]
 
 def check(copies: Copies, app: App, asked: Sequence[Question]) -> Iterator[Finding]:
     """What changes. An intent with categories is reported only if they make a difference."""
+    yield from of_hosts(_changes(copies, app, asked))
+
+
+def _changes(copies: Copies, app: App, asked: Sequence[Question]) -> Iterator[Said]:
     said: dict[tuple[object, ...], str] = {}
     for question in sorted(asked, key=lambda it: len(it.intent.categories) > 0):
         found = _activity(copies, app, question) if question.kind == "activity" else _receiver(copies, app, question)
         if found is None:
             continue
         if not question.intent.categories or said.get(question.plain_key) != found.message:
-            yield found
+            yield question.intent, found
         said[question.key] = found.message
 
 

@@ -3,8 +3,9 @@ from collections.abc import Iterator
 
 from amctl import words_lint
 from amctl.devicefile import SYSTEM, Component, DeviceFile, components_of
+from amctl.findings.finding import Finding
 from amctl.kept import Kept, manifest_of
-from amctl.lint.finding import Finding, finding
+from amctl.lint.finding import finding
 from amctl.lint.names import near_name
 
 # platforms guard and grant much that no device file has to mention
@@ -20,8 +21,8 @@ def check(file: DeviceFile, kept: Kept | None) -> Iterator[Finding]:
 
 def _permissions(file: DeviceFile, kept: Kept) -> Iterator[Finding]:
     own = [it for package in file.packages for it in package.components]
-    asked = {it.permission for it in (*own, *_kept_components(kept)) if it.permission}
-    granted = {it.permission for it in file.grants} | {it.text for it in kept.grants if it.held}
+    asked = frozenset(it.permission for it in (*own, *_kept_components(kept)) if it.permission)
+    granted = frozenset({it.permission for it in file.grants} | {it.text for it in kept.grants if it.held})
     for grant in file.grants:
         near = near_name(grant.permission, asked)
         if grant.permission not in asked and (near or not grant.permission.startswith(PLATFORM)):

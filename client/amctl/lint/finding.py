@@ -1,32 +1,26 @@
-"""A finding, and where in the file it is."""
-from dataclasses import dataclass, field
-from pathlib import Path
+"""A finding at a place of a device file."""
+import re
 
 from amctl.devicefile import DeviceFile
+from amctl.findings.finding import Finding
+from amctl.places import Place
 
-
-@dataclass(frozen=True, order=True)
-class Finding:
-    """What is found at a line and a column, counted from 1; both are 0 if it isn't in the device file. `shown` is the line itself."""
-
-    line: int
-    column: int
-    rule: str
-    message: str
-    shown: str = field(default="", compare=False)
-
-    def text(self, path: Path) -> str:
-        where = f"{path}:{self.line}:{self.column}" if self.line else str(path)
-        shown = f"\n    {self.shown.strip()}" if self.shown else ""
-        return f"{where}: {self.rule}: {self.message}{shown}"
-
-    def to_json(self, path: Path) -> dict[str, str | int]:
-        return {"file": str(path), "line": self.line, "column": self.column, "rule": self.rule, "message": self.message}
+OF_PACKAGE = re.compile(r"package\[(\d+)\]")
+OF_COMPONENT = re.compile(r"package\[\d+\]\.manifest\.(?:activity|service|receiver)\[\d+\]")
+TOP = Place(1, 1)
 
 
 def finding(file: DeviceFile, at: str, rule: str, message: str) -> Finding:
     """A finding at a path of the file, such as `package[0].key`."""
     place = file.place(at)
-    if place is None:
-        return Finding(1, 1, rule, message)
-    return Finding(place.line, place.column, rule, message, file.shown(place))
+    return Finding(rule, about(file, at), message, place or TOP, at, shown=file.shown(place), tool="lint")
+
+
+def about(file: DeviceFile, at: str) -> str:
+    """Whose a path is: a component's or a package's, else the device's. It stays the same if packages change places."""
+    component = OF_COMPONENT.match(at)
+    named = next((it for package in file.packages for it in package.components if component and it.at == component[0]), None)
+    if named is not None:
+        return named.component
+    package = OF_PACKAGE.match(at)
+    return next((it.name for it in file.packages if package and it.at == package[0]), file.path.name)

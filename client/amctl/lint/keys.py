@@ -1,12 +1,14 @@
 """Keys that no table has: `am` ignores them."""
 import dataclasses
 import difflib
+import functools
 from collections.abc import Iterator, Mapping
 from typing import Any
 
 from amctl import words_lint
 from amctl.devicefile import DeviceFile
-from amctl.lint.finding import Finding, finding
+from amctl.findings.finding import Finding
+from amctl.lint.finding import finding
 from amctl.lint.names import is_one_off
 
 RULE = "unknown-key"
@@ -70,6 +72,7 @@ def _said(key: str, what: str) -> str:
     return words_lint.unknown_key(key, what, None)
 
 
+@functools.lru_cache(maxsize=4096)
 def _nearest(key: str, known: tuple[str, ...]) -> str | None:
     plain = {_plain(it): it for it in known}
     one_off = [it for it in plain if is_one_off(_plain(key), it)]

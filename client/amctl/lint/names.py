@@ -1,5 +1,6 @@
 """Android's names of actions and categories, and the one of them that a misspelt name was meant to be."""
 import difflib
+import functools
 from collections.abc import Iterable
 
 ACTION_PREFIX = "android.intent.action."
@@ -39,7 +40,8 @@ CATEGORIES = frozenset(
 MODES = ("standard", "singleTop", "singleTask", "singleInstance", "singleInstancePerTask")
 
 
-def meant(value: str, known: Iterable[str]) -> str | None:
+@functools.lru_cache(maxsize=4096)
+def meant(value: str, known: frozenset[str]) -> str | None:
     """The known name that was meant by one that isn't known: by its case, by its constant, or by one letter."""
     names = sorted(known)
     if value in names:
@@ -51,13 +53,65 @@ def meant(value: str, known: Iterable[str]) -> str | None:
     return next((name for name in names if is_one_off(value, name)), None)
 
 
+class Names:
+    """Names among which the one that was likely meant is found without a look at each."""
+
+    def __init__(self, names: Iterable[str]) -> None:
+        self._names = sorted(set(names))
+
+    def near(self, value: str) -> str | None:
+        """The first other name that was likely meant: the same except for case, for one letter, or for what comes before its last part."""
+        found = _first(self._by_case.get(value.lower(), []), value)
+        if found is None:
+            found = self._one_off(value)
+        return _first(self._by_last.get(_last(value), []), value) if found is None else found
+
+    def _one_off(self, value: str) -> str | None:
+        found = {it for rest in _rests(value) for it in self._by_rest.get(rest, [])}
+        return min((it for it in found if it != value and is_one_off(value, it)), default=None)
+
+    @functools.cached_property
+    def _by_case(self) -> dict[str, list[str]]:
+        return _grouped((it.lower(), it) for it in self._names)
+
+    @functools.cached_property
+    def _by_last(self) -> dict[str, list[str]]:
+        return _grouped((_last(it), it) for it in self._names)
+
+    @functools.cached_property
+    def _by_rest(self) -> dict[str, list[str]]:
+        return _grouped((rest, it) for it in self._names for rest in _rests(it))
+
+
+def _grouped(pairs: Iterable[tuple[str, str]]) -> dict[str, list[str]]:
+    found: dict[str, list[str]] = {}
+    for key, name in pairs:
+        found.setdefault(key, []).append(name)
+    return found
+
+
+def _first(names: Iterable[str], but: str) -> str | None:
+    return next((it for it in names if it != but), None)
+
+
+def _last(name: str) -> str:
+    return name.rpartition(".")[2]
+
+
+def _rests(text: str) -> set[str]:
+    """The text, and what is left of it without one letter: two texts that are one off have such a rest in common."""
+    return {text, *(text[:at] + text[at + 1 :] for at in range(len(text)))}
+
+
 def near_name(value: str, others: Iterable[str]) -> str | None:
-    """The other name that was likely meant: the same except for case, for one letter, or for what comes before its last part."""
-    names = sorted(set(others) - {value})
-    last = value.rpartition(".")[2]
-    likely = [it for it in names if it.lower() == value.lower()] or [it for it in names if is_one_off(value, it)]
-    found = likely or [it for it in names if it.rpartition(".")[2] == last]
-    return found[0] if found else None
+    """The other name that was likely meant."""
+    return _names_of(frozenset(others)).near(value)
+
+
+@functools.lru_cache(maxsize=4)
+def _names_of(names: frozenset[str]) -> Names:
+    # many values are held against the same names
+    return Names(names)
 
 
 def is_one_off(text: str, other: str) -> bool:

@@ -7,12 +7,15 @@ from amctl.device import Device
 from amctl.devicefile import DeviceFile
 from amctl.errors import DeviceFault, NotToml
 from amctl.faults import fault_of
-from amctl.lint.finding import Finding
+from amctl.findings.finding import Finding
+from amctl.lint.finding import TOP
+from amctl.places import Place
 
 
-def not_toml(fault: NotToml) -> Finding:
+def not_toml(path: Path, fault: NotToml) -> Finding:
     """The finding of a file that this client can't read as TOML."""
-    return Finding(fault.line, fault.column, "not-toml", words_lint.not_toml(fault.what), fault.shown)
+    place = Place(fault.line, fault.column)
+    return Finding("not-toml", path.name, words_lint.not_toml(fault.what), place, shown=fault.shown, tool="lint")
 
 
 def refused(file: DeviceFile, am: Path | None) -> Iterator[Finding]:
@@ -23,5 +26,4 @@ def refused(file: DeviceFile, am: Path | None) -> Iterator[Finding]:
         if fault.refused is None:
             raise
         found = fault_of(file, fault.refused)
-        line, column = (found.place.line, found.place.column) if found.place else (1, 1)
-        yield Finding(line, column, "refused", words_lint.refused(found.sentence.text), found.shown)
+        yield Finding("refused", file.path.name, words_lint.refused(found.sentence.text), found.place or TOP, shown=found.shown, tool="lint")

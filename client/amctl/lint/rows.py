@@ -5,8 +5,8 @@ from pathlib import Path
 from amctl import words_lint
 from amctl.android import FIRST_UID
 from amctl.devicefile import DeviceFile
+from amctl.findings.finding import Finding
 from amctl.kept import Kept, KeptPackage
-from amctl.lint.finding import Finding
 
 RULE = "kept-rows"
 
@@ -20,12 +20,12 @@ def check(file: DeviceFile, store: Path, kept: Kept) -> Iterator[Finding]:
     for row in (row for row in kept.packages if not row.gone):
         why = _misfit(row, live, names, keys)
         if why is not None:
-            yield Finding(0, 0, RULE, words_lint.kept_package(store, row.name, why))
+            yield Finding(RULE, row.name, words_lint.kept_package(store, row.name, why), tool="lint")
     known = {*live, *(row.uid for row in kept.packages)}
     for what, rights in (("the permission", kept.grants), ("the approval for", kept.links)):
         for right in rights:
             if right.held and right.uid not in known:
-                yield Finding(0, 0, RULE, words_lint.kept_right(store, f"{what} {right.text}", right.uid))
+                yield Finding(RULE, f"uid {right.uid}", words_lint.kept_right(store, f"{what} {right.text}", right.uid), tool="lint")
 
 
 def _misfit(row: KeptPackage, live: dict[int, str], names: set[str], keys: set[str]) -> str | None:

@@ -6,8 +6,9 @@ from typing import Any
 from amctl import words_lint
 from amctl.android import BROWSABLE, DEFAULT, WEB_SCHEMES
 from amctl.devicefile import Component, DeviceFile, Filter, Link, Package
+from amctl.findings.finding import Finding
 from amctl.intents import VIEW
-from amctl.lint.finding import Finding, finding
+from amctl.lint.finding import finding
 from amctl.lint.names import ACTIONS, CATEGORIES, meant, mode_meant, near_name
 
 PATHS = ("path", "pathPrefix", "pathSuffix", "pathPattern")

@@ -21,7 +21,7 @@ from typing import Any, TextIO
 from amctl import show, words_survey
 from amctl.apps.told import shown
 from amctl.devicefile import DeviceFile
-from amctl.errors import BadWords
+from amctl.errors import BadWords, DeviceFault
 from amctl.survey import exposure, made, picture, tables
 from amctl.survey.inputs import App, files_of
 from amctl.survey.jobs import AGAIN, Accept, AskEach, AskOne, Job, Read
@@ -50,13 +50,14 @@ class Asked:
 
 @dataclass(frozen=True)
 class Found:
-    """What the device answered, by package, and the apps that can't be read, by file."""
+    """What the device answered, by package, and by file the apps that can't be read and what wasn't looked at of the others."""
 
     apps: tuple[str, ...]
     others: tuple[str, ...]
     components: tuple[exposure.Named, ...]
     answers: tuple[Answers, ...]
     unreadable: tuple[tuple[str, str], ...]
+    left_out: tuple[tuple[str, str, str], ...] = ()
 
 
 def survey(asked: Asked) -> Found:
@@ -74,7 +75,10 @@ def _asked(asked: Asked, base: DeviceFile, files: Sequence[str], kept: Kept, run
     apps = [App.from_json(it["app"]) for it in read if "app" in it]
     _refuse_doubled(asked, base, apps)
     mark = program_mark(asked.am)
-    tried = _done([Accept(it, asked.am, mark) for it in apps], kept, run, words_survey.TRYING)
+    accepting = [Accept(it, asked.am, mark) for it in apps]
+    if not asked.is_each:
+        _accept_together(accepting, kept)
+    tried = _done(accepting, kept, run, words_survey.TRYING)
     taken = sorted((app for app, it in zip(apps, tried) if "reason" not in it), key=lambda it: it.package)
     device = made.device_of(base, [] if asked.is_each else taken)
     made.check(asked.device, device, asked.am)
@@ -84,7 +88,14 @@ def _asked(asked: Asked, base: DeviceFile, files: Sequence[str], kept: Kept, run
     else:
         asking = [AskOne(it, device, asked.am, mark) for it in made.names_of(device)]
     answers = _done(asking, kept, run, words_survey.ASKING)
-    return _found(base, device, taken, answers, [it for it in (*read, *tried, *answers) if "reason" in it])
+    found = _found(base, device, taken, answers, [it for it in (*read, *tried, *answers) if "reason" in it])
+    return dataclasses.replace(found, left_out=_left_out(read, found.apps))
+
+
+def _left_out(read: Sequence[Answers], apps: Sequence[str]) -> tuple[tuple[str, str, str], ...]:
+    """What wasn't looked at of these apps: each with its file, its component or package, and what it was."""
+    known = [it for it in read if "app" in it and it["app"]["package"] in apps]
+    return tuple(sorted((str(it["app"]["file"]), str(place), str(what)) for it in known for place, what in it["leftOut"]))
 
 
 def _found(base: DeviceFile, device: str, taken: Sequence[App], answers: Sequence[Answers], faults: Sequence[Answers]) -> Found:
@@ -110,6 +121,20 @@ def _done(jobs: Sequence[Job], kept: Kept, run: Run, what: str) -> list[Answers]
             kept.put(key, found)
         done[key] = found
     return [done[key] for key in keys]
+
+
+def _accept_together(jobs: Sequence[Accept], kept: Kept) -> None:
+    """Keeps that `am` takes all apps at once, as many as a device has: what it takes so it takes one by one too."""
+    rest = [it for it in jobs if kept.get(it.key) is None]
+    if not rest:
+        return
+    try:
+        made.opened(made.device_of(made.parsed(made.BARE), [it.app for it in rest]), rest[0].am).close()
+    except DeviceFault:
+        # each is asked by itself
+        return
+    for it in rest:
+        kept.put(it.key, {})
 
 
 def _refuse_too_many(asked: Asked, base: DeviceFile, files: int) -> None:
@@ -141,13 +166,14 @@ def main(asked: Asked, out: TextIO | None = None) -> int:
         "reach.csv": lambda: tables.reach(found.answers),
         "links.csv": lambda: tables.links(found.answers),
         "exposed.csv": lambda: tables.exposed(ranked),
+        "left-out.csv": lambda: tables.left_out(found.left_out),
         "unreadable.csv": lambda: tables.unreadable(found.unreadable),
         "reach.svg": lambda: picture.drawn(found.apps, found.others, found.answers, shown, is_each=asked.is_each),
     }
     kept = Kept.open(asked.into)
     kept.write_all({name: text() for name, text in writes.items()})
     show.show_table(words_survey.COLUMNS, [words_survey.COLUMNS, *tables.short(ranked)][_header(out) :], out)
-    for line in words_survey.remarks(found.unreadable, sum(it["left"] for it in found.answers), asked.into):
+    for line in words_survey.remarks(found.unreadable, found.left_out, sum(it["left"] for it in found.answers), asked.into):
         print(f"amctl: {line}", file=sys.stderr)
     return UNREADABLE if found.unreadable else 0
 

@@ -40,13 +40,13 @@ class Copy:
 
     def _session(self) -> Device:
         if self._device is not None and self._asked >= self.most_asked:
-            self._close()
+            self.close()
         if self._device is None:
             self._device, self._asked = opened(self.text, self.am), 0
         self._asked += 1
         return self._device
 
-    def _close(self) -> None:
+    def close(self) -> None:
         if self._device is not None:
             self._device.close()
         self._device = None
@@ -55,7 +55,31 @@ class Copy:
         return self
 
     def __exit__(self, kind: type[BaseException] | None, error: BaseException | None, trace: TracebackType | None) -> None:
-        self._close()
+        self.close()
+
+
+class Sessions:
+    """The session that is open: the next job on the same device goes on with it, since questions change nothing."""
+
+    def __init__(self) -> None:
+        self._copy: Copy | None = None
+
+    def on(self, text: str, am: Path | None) -> Copy:
+        if self._copy is None or (self._copy.text, self._copy.am) != (text, am):
+            self.close()
+            self._copy = Copy(text, am)
+        return self._copy
+
+    def close(self) -> None:
+        if self._copy is not None:
+            self._copy.close()
+        self._copy = None
+
+    def __enter__(self) -> "Sessions":
+        return self
+
+    def __exit__(self, kind: type[BaseException] | None, error: BaseException | None, trace: TracebackType | None) -> None:
+        self.close()
 
 
 def reach(copy: Copy, callers: Iterable[str], targets: Sequence[str]) -> list[dict[str, Any]]:

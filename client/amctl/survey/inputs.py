@@ -14,6 +14,8 @@ from amctl.survey.made import written
 
 MANIFEST = "AndroidManifest.xml"
 MOST_BYTES = 4 * 2**20
+# the component or the package, and what it was
+LeftOut = tuple[str, str]
 
 
 class Unreadable(AmctlError):
@@ -65,17 +67,18 @@ def _is_app(name: str, is_top: bool) -> bool:
     return name == MANIFEST or name.lower().endswith(".apk") or (is_top and name.lower().endswith((".xml", ".toml")))
 
 
-def read(folder: Path, file: str) -> App:
-    """The app of a file, or why it can't be read, in words that name no folder."""
+def read(folder: Path, file: str) -> tuple[App, tuple[LeftOut, ...]]:
+    """The app of a file with what the converter left out of it, or why it can't be read, in words that name no folder."""
     path = folder / file
     if path.suffix.lower() == ".toml":
-        return _of_toml(path, file)
+        return _of_toml(path, file), ()
     # the readers of APKs take a while to load
     from amctl.apps import InputFault, read_app
 
     try:
         found = read_app(path)
-        return App(file, found.package, written(tomllib.loads(found.manifest)))
+        left_out = tuple((it.place, it.words) for it in found.left_out)
+        return App(file, found.package, written(tomllib.loads(found.manifest))), left_out
     except InputFault as fault:
         raise Unreadable(str(fault)) from None
 

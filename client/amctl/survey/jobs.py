@@ -10,10 +10,11 @@ from typing import Any, Protocol
 from amctl import words, words_survey
 from amctl.errors import DeviceFault
 from amctl.survey import asking, made
+from amctl.survey.asking import Sessions
 from amctl.survey.inputs import App, Unreadable, read
 
 # part of each key: what another form of answers has kept isn't taken
-FORM = 1
+FORM = 2
 # what isn't kept, so that the next survey does it again
 AGAIN = "again"
 IN_DEVICE = re.compile(r"package\[\d+\]\.(manifest\.)?")
@@ -23,11 +24,15 @@ class Job(Protocol):
     @property
     def key(self) -> str: ...
 
-    def run(self) -> dict[str, Any]: ...
+    def run(self, sessions: Sessions) -> dict[str, Any]: ...
 
 
-def run_job(job: Job) -> dict[str, Any]:
-    return job.run()
+def run_job(job: Job, sessions: Sessions | None = None) -> dict[str, Any]:
+    """What a job gives, on the sessions of those before it or on its own."""
+    if sessions is not None:
+        return job.run(sessions)
+    with Sessions() as own:
+        return job.run(own)
 
 
 def key_of(*parts: object) -> str:
@@ -58,9 +63,10 @@ class Read:
     def key(self) -> str:
         return key_of("read", str(self.folder), self.file, self.state)
 
-    def run(self) -> dict[str, Any]:
+    def run(self, sessions: Sessions) -> dict[str, Any]:
         try:
-            return {"app": read(self.folder, self.file).to_json()}
+            app, left_out = read(self.folder, self.file)
+            return {"app": app.to_json(), "leftOut": left_out}
         except Unreadable as fault:
             # perhaps it was the machine's fault
             return {"file": self.file, "reason": str(fault), AGAIN: True}
@@ -78,7 +84,7 @@ class Accept:
     def key(self) -> str:
         return key_of("accept", self.mark, self.app.file, self.app.manifest)
 
-    def run(self) -> dict[str, Any]:
+    def run(self, sessions: Sessions) -> dict[str, Any]:
         text = made.device_of(made.parsed(made.BARE), [self.app])
         try:
             made.opened(text, self.am).close()
@@ -108,10 +114,10 @@ class AskOne:
     def key(self) -> str:
         return key_of("one", self.mark, self.package, self.device)
 
-    def run(self) -> dict[str, Any]:
-        with asking.Copy(self.device, self.am) as copy:
-            claimed, left = asking.claims(copy, self.package)
-            return {"reach": asking.reach(copy, [self.package], copy.file.names), "links": claimed, "left": left}
+    def run(self, sessions: Sessions) -> dict[str, Any]:
+        copy = sessions.on(self.device, self.am)
+        claimed, left = asking.claims(copy, self.package)
+        return {"reach": asking.reach(copy, [self.package], copy.file.names), "links": claimed, "left": left}
 
 
 @dataclass(frozen=True)
@@ -127,16 +133,16 @@ class AskEach:
     def key(self) -> str:
         return key_of("each", self.mark, self.app.package, self.app.manifest, self.device)
 
-    def run(self) -> dict[str, Any]:
+    def run(self, sessions: Sessions) -> dict[str, Any]:
         try:
-            return self._answers()
+            return self._answers(sessions)
         except DeviceFault as fault:
             # with the device's packages it may be too much
             return {"file": self.app.file, "reason": _refused(fault)}
 
-    def _answers(self) -> dict[str, Any]:
+    def _answers(self, sessions: Sessions) -> dict[str, Any]:
         base, name = made.parsed(self.device), self.app.package
-        with asking.Copy(made.device_of(base, [self.app]), self.am) as copy:
-            claimed, left = asking.claims(copy, name)
-            both = asking.reach(copy, [name], base.names) + asking.reach(copy, base.names, [name])
-            return {"reach": both, "links": claimed, "left": left}
+        copy = sessions.on(made.device_of(base, [self.app]), self.am)
+        claimed, left = asking.claims(copy, name)
+        both = asking.reach(copy, [name], base.names) + asking.reach(copy, base.names, [name])
+        return {"reach": both, "links": claimed, "left": left}

@@ -1,4 +1,5 @@
 """The device on which the apps are: a given one, or one that has nothing, with the apps added."""
+import functools
 import re
 import tempfile
 from collections.abc import Mapping, Sequence
@@ -39,6 +40,8 @@ def base_of(device: Path | None) -> DeviceFile:
     return parsed(BARE) if device is None else DeviceFile.read(device)
 
 
+# a process asks the same device again and again, and a bare one in between
+@functools.lru_cache(maxsize=2)
 def parsed(text: str) -> DeviceFile:
     return DeviceFile.parse(Path(NAME), text)
 

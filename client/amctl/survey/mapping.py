@@ -15,6 +15,7 @@ from typing import Any
 
 from amctl import words_survey
 from amctl.errors import AmctlError, BadWords
+from amctl.survey.asking import Sessions
 from amctl.survey.jobs import Job, run_job
 
 Done = Iterator[tuple[str, dict[str, Any]]]
@@ -25,7 +26,7 @@ PATIENCE = "20s"
 
 
 class JobFault(AmctlError):
-    """A job's fault. Unlike some others it goes from one process to another as it is."""
+    """A job that had no end of its own."""
 
 
 @contextmanager
@@ -48,21 +49,14 @@ def runner(jobs: int, dask: str | None) -> Iterator[Run]:
             pool.shutdown(cancel_futures=True)
 
 
-def carried_out(job: Job) -> dict[str, Any]:
-    """Runs a job in another process."""
-    try:
-        return run_job(job)
-    except AmctlError as fault:
-        raise JobFault(str(fault)) from None
-
-
 def _here(jobs: Mapping[str, Job]) -> Done:
-    for key, job in jobs.items():
-        yield key, run_job(job)
+    with Sessions() as sessions:
+        for key, job in jobs.items():
+            yield key, run_job(job, sessions)
 
 
 def _on_processors(pool: concurrent.futures.Executor, jobs: Mapping[str, Job]) -> Done:
-    keys = {pool.submit(carried_out, job): key for key, job in jobs.items()}
+    keys = {pool.submit(run_job, job): key for key, job in jobs.items()}
     try:
         for future in concurrent.futures.as_completed(keys):
             yield keys[future], future.result()
@@ -106,7 +100,7 @@ def _over_dask(client: Any, jobs: Mapping[str, Job]) -> Done:
     keys: dict[str, str] = {}
 
     def submit(job: tuple[str, Job]) -> Any:
-        future = client.submit(carried_out, job[1], pure=False)
+        future = client.submit(run_job, job[1], pure=False)
         keys[future.key] = job[0]
         return future
 

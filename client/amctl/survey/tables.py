@@ -58,5 +58,10 @@ def _counts(found: Exposed) -> tuple[int, ...]:
     return (len(found.open), *map(found.of_kind, KINDS), len(found.callers))
 
 
+def left_out(told: Sequence[tuple[str, str, str]]) -> str:
+    """A line for each thing that the converter left out of an app or wrote otherwise, and at which component or package."""
+    return _text(("file", "place", "what"), told)
+
+
 def unreadable(faults: Sequence[tuple[str, str]]) -> str:
     return _text(("file", "reason"), [(file, " ".join(reason.split())) for file, reason in faults])

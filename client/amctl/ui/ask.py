@@ -80,9 +80,9 @@ def answer(device: Device, question: Question) -> dict[str, Any]:
     found = asks.explain(question.kind, question.intent, as_=as_)
     about = words.About(question.caller, question.kind, question.intent, device.file)
     ranked = sorted(found, key=lambda it: ORDER.index(it.verdict) if it.verdict in ORDER else len(ORDER))
-    reached = tuple(words.shown(it.to) for it in found if it.verdict == "reached")
+    reached, tied = (tuple(words.shown(it.to) for it in found if it.verdict == verdict) for verdict in ("reached", "tied"))
     return {
-        "line": words_ui.verdict_line(reached, question.kind) if found else words.none_of_kind(question.kind, None),
+        "line": words_ui.verdict_line(reached, question.kind, tied) if found else words.none_of_kind(question.kind, None),
         "accounts": [_row(it, about) for it in ranked],
         "changes": [it.to_json() for it in question.changes],
     }

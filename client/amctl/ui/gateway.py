@@ -112,9 +112,9 @@ def _said(view: Answering) -> Callable[[Request], Awaitable[Response]]:
         try:
             return JSONResponse(await view(request))
         except (NoServer, Ended, NoProgram) as gone:
-            return JSONResponse({"gone": str(gone)})
+            return JSONResponse({"gone": gone.told})
         except AmctlError as wrong:
-            return JSONResponse({"error": str(wrong)})
+            return JSONResponse({"error": wrong.told})
 
     return answered
 

@@ -6,7 +6,7 @@ from contextlib import closing
 from pathlib import Path
 
 from amctl import words_serve, words_ui
-from amctl.errors import AmctlError, BadWords
+from amctl.errors import BadWords
 from amctl.serve import HOST, PortTaken
 from amctl.ui.desk import Desk
 from amctl.where import Where
@@ -39,10 +39,10 @@ def _desk(where: Where) -> Desk:
     try:
         # a server that isn't there is said before the page is
         device.system.status()
-    except AmctlError:
+    except BaseException:
         device.close()
         raise
-    return Desk(device, url=where.url, am=where.am)
+    return Desk(device, url=where.shown_url, am=where.am)
 
 
 def _listener(port: int | None) -> socket.socket:

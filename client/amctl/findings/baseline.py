@@ -2,8 +2,8 @@
 from pathlib import Path
 
 from amctl import words_check
-from amctl.check.facts import read_json
 from amctl.errors import BadWords
+from amctl.files import read_json
 
 FORM = "take what an earlier run wrote by `--format json`"
 
