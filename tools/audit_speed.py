@@ -51,7 +51,7 @@ def record(program, folder, count):
     server = subprocess.Popen([program, *words], stdout=subprocess.DEVNULL)
     while not is_listening(port):
         time.sleep(0.02)
-    frames = "".join(frame(*asked) for asked in stored_requests(count)).encode()
+    frames = b"".join(frame(*asked) for asked in stored_requests(count))
     responses = ask_all(port, frames)
     stored = write_history(port, "sys", path["history"])
     if server.wait(60) or stored != count:

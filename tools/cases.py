@@ -12,6 +12,8 @@ which the lines below it that are indented by four blanks belong:
                             `run sqlite FILE` runs the statement of its input on a file of kept rows, and prints its rows
     METHOD PATH KEY BODY    a frame, with `-` for no key; below it what is answered: `200 {}`, or `200 at 3 stored {}` with
                             the fields AM-At: 3 and AM-Stored: 1, or `200 at 3 {}` with AM-Stored: 0
+                            A reply may leave fields out: in an object that ends with `..`, as `{"task":1,..}`, only the
+                            fields before it have to be there, and others may be
     bytes TEXT              bytes in the place of a frame; below it the answers, if there are any
     input                   the text of the standard input
     prints                  the text of the standard output
@@ -29,10 +31,12 @@ What isn't of this form, and what would count for nothing, such as lines below a
 """
 from __future__ import annotations
 
+import json
 import re
 from collections.abc import Iterator
 from dataclasses import dataclass, field
 from pathlib import Path
+from typing import Union
 
 PHRASES = {
     200: "OK", 300: "Multiple Choices", 400: "Bad Request", 401: "Unauthorized", 403: "Forbidden", 404: "Not Found",
@@ -48,6 +52,8 @@ REPEATED = re.compile(r"<(\d+):([^<>]*)>")
 TIMES = re.compile(r"([1-9]\d*) times (.*)", re.S)
 FRAME = re.compile(r"([A-Z]+) (\S+) (\S+)(?: (.*))?", re.S)
 ANSWER = re.compile(r"(\d{3})(?: at (\d+)( stored)?)? (\{.*)", re.S)
+# a text of JSON, or the mark of fields that are left out
+TEXT_OR_MARK = re.compile(r'"(?:[^"\\]|\\.)*"|\.\.(\})?')
 CONTINUED = re.compile(r"(?<!\\)\\\n")
 END = re.compile(r"(\d+)(?: (.+))?")
 HOLE = re.compile(r"\$(\d)")
@@ -57,6 +63,9 @@ RESPONSE = re.compile(
     rb"HTTP/1\.1 (\d+) ([^\r]*)\r\nContent-Type: application/json\r\nContent-Length: (\d+)\r\n"
     rb"(?:AM-At: (\d+)\r\nAM-Stored: ([01])\r\n)?\r\n"
 )
+
+
+JsonValue = Union[None, bool, int, float, str, list["JsonValue"], dict[str, "JsonValue"]]
 
 
 class FormError(Exception):
@@ -182,12 +191,58 @@ def frame(place: Place, text: str) -> bytes:
     return f"{head}Content-Length: {len(body.encode())}\r\n\r\n{body}".encode()
 
 
+def wanted_of(body: str) -> JsonValue | None:
+    """What a reply with fields left out asks for, each left-out rest as the field `..`; None of a reply that is whole."""
+    def spelled(it: re.Match[str]) -> str:
+        return it[0] if it[0].startswith('"') or not it[1] else '"..":null}'
+
+    marked = [it for it in TEXT_OR_MARK.finditer(body) if it[0].startswith("..")]
+    return json.loads(TEXT_OR_MARK.sub(spelled, body)) if marked else None
+
+
+def agrees(wanted: JsonValue, reply: JsonValue) -> bool:
+    """Whether a reply is what is asked for, in each of its objects but for the fields that are left out."""
+    if isinstance(wanted, dict) and isinstance(reply, dict):
+        told = wanted.keys() - {".."}
+        return (told <= reply.keys() if ".." in wanted else told == reply.keys()) and all(agrees(wanted[it], reply[it]) for it in told)
+    if isinstance(wanted, list) and isinstance(reply, list):
+        return len(wanted) == len(reply) and all(map(agrees, wanted, reply))
+    return type(wanted) is type(reply) and wanted == reply
+
+
+def is_meant(wanted: re.Match[bytes], asked: bytes, printed: re.Match[bytes], reply: bytes) -> bool:
+    """Whether a printed response is one that an answer with fields left out means."""
+    heads = [(it[1], it[2], it[4], it[5]) for it in (wanted, printed)]
+    pattern = wanted_of(asked.decode())
+    if pattern is None or heads[0] != heads[1]:
+        return False
+    try:
+        return agrees(pattern, json.loads(reply))
+    except ValueError:
+        return False
+
+
+def abridged(output: bytes, printed: bytes) -> bytes:
+    """What was printed, each response that the output means by an answer with fields left out in that answer's words."""
+    parts: list[bytes] = []
+    at = end = 0
+    while (wanted := RESPONSE.match(output, at)) and (found := RESPONSE.match(printed, end)):
+        at, start, end = wanted.end() + int(wanted[3]), end, found.end() + int(found[3])
+        is_same = is_meant(wanted, output[wanted.end() : at], found, printed[found.end() : end])
+        parts.append(output[wanted.start() : at] if is_same else printed[start:end])
+    return b"".join([*parts, printed[end:]])
+
+
 def response(place: Place, text: str) -> bytes:
     """The bytes of a response."""
     found = ANSWER.fullmatch(repeated(text))
     if not found or int(found[1]) not in PHRASES:
         raise FormError(place, f"no answer: {text}")
     status, at, stored, body = found.groups()
+    try:
+        wanted_of(body)
+    except ValueError:
+        raise FormError(place, f"no reply: {body}") from None
     head = f"HTTP/1.1 {status} {PHRASES[int(status)]}\r\nContent-Type: application/json\r\nContent-Length: {len(body.encode())}\r\n"
     if at is not None:
         head += f"AM-At: {at}\r\nAM-Stored: {1 if stored else 0}\r\n"

@@ -19,6 +19,8 @@ import subprocess
 import sys
 import tempfile
 
+from frames import frame
+
 HEAD = re.compile(
     rb"HTTP/1\.1 (\d{3}) [A-Z][A-Za-z ]*\r\nContent-Type: application/json\r\nContent-Length: (\d+)\r\n"
     rb"(?:AM-At: \d+\r\nAM-Stored: ([01])\r\n)?\r\n"
@@ -48,13 +50,6 @@ def toml(value):
     if isinstance(value, list):
         return "[" + ", ".join(map(toml, value)) + "]"
     return json.dumps(value)
-
-
-def frame(key, path, body):
-    if body is None:
-        return f"GET {path} HTTP/1.1\r\nAM-Key: {key}\r\n\r\n".encode()
-    body = text_of(body).encode()
-    return f"POST {path} HTTP/1.1\r\nAM-Key: {key}\r\nContent-Length: {len(body)}\r\n\r\n".encode() + body
 
 
 class Device:
@@ -349,7 +344,7 @@ def main(program, requests, seed):
             file.write(device.file)
             file.flush()
             words = [program, "session", "--device", file.name, "--at", "0", "--step", "1"]
-            run = subprocess.run(words, input=b"".join(frame(*call) for call in device.calls), capture_output=True)
+            run = subprocess.run(words, input=b"".join(frame(key, path, None if body is None else text_of(body)) for key, path, body in device.calls), capture_output=True)
         answers = list(answers_of(run.stdout))
         if run.returncode or len(answers) != len(device.calls):
             sys.exit(f"explained: status {run.returncode}, {len(answers)} of {len(device.calls)} answers\n{run.stderr.decode()}{device.file}")

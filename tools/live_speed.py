@@ -15,6 +15,8 @@ import tempfile
 import threading
 import time
 
+import frames
+
 GROUP = 7
 PACKAGES = 256
 
@@ -29,10 +31,7 @@ def device():
 
 
 def frame(key, path, body=None):
-    if body is None:
-        return f"GET {path} HTTP/1.1\r\nAM-Key: {key}\r\n\r\n".encode()
-    text = json.dumps(body, separators=(",", ":"))
-    return f"POST {path} HTTP/1.1\r\nAM-Key: {key}\r\nContent-Length: {len(text)}\r\n\r\n{text}".encode()
+    return frames.frame(key, path, None if body is None else json.dumps(body, separators=(",", ":")))
 
 
 class Session:
@@ -40,10 +39,10 @@ class Session:
         words = [program, "session", "--device", device_file]
         self.run = subprocess.Popen(words, stdin=subprocess.PIPE, stdout=subprocess.PIPE)
 
-    def ask(self, frames):
+    def ask(self, asked):
         """The seconds until all frames are answered, and the answers."""
-        count, answers, found = len(frames), [], 0
-        writer = threading.Thread(target=self.write, args=(b"".join(frames),))
+        count, answers, found = len(asked), [], 0
+        writer = threading.Thread(target=self.write, args=(b"".join(asked),))
         began = time.perf_counter()
         writer.start()
         while found < count:
@@ -74,8 +73,8 @@ class Session:
                 return found
             found += 1
 
-    def write(self, frames):
-        self.run.stdin.write(frames)
+    def write(self, asked):
+        self.run.stdin.write(asked)
         self.run.stdin.flush()
 
     def end(self):

@@ -1,4 +1,4 @@
-"""A server under test: the built program, its frames, and connections that hold each response to the form of docs/HTTP.md."""
+"""A server under test: the built program, and connections that hold each response to the form of docs/HTTP.md."""
 import glob
 import json
 import os
@@ -11,6 +11,9 @@ import time
 from collections.abc import Iterator
 from typing import Any, NamedTuple, NoReturn, Optional
 
+from frames import frame
+
+__all__ = ["HEAD", "Link", "Response", "Server", "ask_many", "built", "fail", "frame", "free_port", "is_listening", "text_of", "whole_responses"]
 HEAD = re.compile(
     rb"HTTP/1\.1 (\d{3} [A-Z][A-Za-z ]*)\r\nContent-Type: application/json\r\nContent-Length: (\d+)\r\n"
     rb"(?:AM-At: (\d+)\r\n)?(?:AM-Stored: ([01])\r\n)?\r\n"
@@ -35,14 +38,6 @@ def built() -> str:
 def text_of(value: Any) -> str:
     """The compact text, with its keys in the order of their bytes."""
     return json.dumps(value, sort_keys=True, ensure_ascii=False, separators=(",", ":"))
-
-
-def frame(key: str, path: str, body: Optional[str] = None) -> bytes:
-    """A frame of a request, whose body is a text, or a `GET` if there is none."""
-    if body is None:
-        return f"GET {path} HTTP/1.1\r\nAM-Key: {key}\r\n\r\n".encode()
-    bytes_of_body = body.encode()
-    return f"POST {path} HTTP/1.1\r\nAM-Key: {key}\r\nContent-Length: {len(bytes_of_body)}\r\n\r\n".encode() + bytes_of_body
 
 
 class Response(NamedTuple):

@@ -14,6 +14,8 @@ import sys
 import tempfile
 import time
 
+import frames
+
 FRAMES = 65536
 GROUPS = 21
 
@@ -32,10 +34,7 @@ def device():
 
 
 def frame(key, path, body):
-    if body is None:
-        return f"GET {path} HTTP/1.1\r\nAM-Key: {key}\r\n\r\n"
-    text = json.dumps(body, separators=(",", ":"))
-    return f"POST {path} HTTP/1.1\r\nAM-Key: {key}\r\nContent-Length: {len(text)}\r\n\r\n{text}"
+    return frames.frame(key, path, None if body is None else json.dumps(body, separators=(",", ":")))
 
 
 def start(number):
@@ -80,16 +79,16 @@ def main(program):
     made = [asked for asked, _ in zip(requests(), range(FRAMES))]
     stored = sum(body is not None for _, _, body in made)
     weight = sum(len(json.dumps(body, separators=(",", ":"))) for _, _, body in made if body is not None)
-    with tempfile.NamedTemporaryFile("w", suffix=".toml") as file, tempfile.TemporaryFile() as frames:
+    with tempfile.NamedTemporaryFile("w", suffix=".toml") as file, tempfile.TemporaryFile() as asked_for:
         file.write(device())
         file.flush()
         words = [program, "session", "--device", file.name]
         subprocess.run(words, stdin=subprocess.DEVNULL, check=True)
         before = resource.getrusage(resource.RUSAGE_CHILDREN).ru_maxrss
-        frames.write("".join(frame(*asked) for asked in made).encode())
-        frames.seek(0)
+        asked_for.write(b"".join(frame(*asked) for asked in made))
+        asked_for.seek(0)
         began = time.perf_counter()
-        run = subprocess.run(words, stdin=frames, capture_output=True)
+        run = subprocess.run(words, stdin=asked_for, capture_output=True)
         took = time.perf_counter() - began
     after = resource.getrusage(resource.RUSAGE_CHILDREN).ru_maxrss
     good = run.stdout.count(b"HTTP/1.1 200 OK\r\n")

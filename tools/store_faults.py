@@ -16,6 +16,8 @@ import sqlite3
 import subprocess
 import sys
 
+from frames import frame
+
 TABLE = """CREATE TABLE kept (kind INTEGER NOT NULL, uid INTEGER NOT NULL, word TEXT NOT NULL,
   name TEXT NOT NULL, access TEXT NOT NULL, manifest TEXT NOT NULL,
   truth INTEGER NOT NULL, PRIMARY KEY (kind, uid, word)) STRICT"""
@@ -50,8 +52,8 @@ def grants(count):
     made = []
     for number in range(count):
         body = f'{{"package":"com.a","permission":"p.{number}.{"x" * 100}","held":true}}'
-        made.append(f"POST /v1/grant HTTP/1.1\r\nAM-Key: sys\r\nContent-Length: {len(body)}\r\n\r\n{body}")
-    return "".join(made)
+        made.append(frame("sys", "/v1/grant", body))
+    return b"".join(made).decode()
 
 
 def words(program, path):

@@ -7,21 +7,22 @@ PROGRAM is the built am. After each kill a new session over the same file has to
 answered, or after one more, which was under way: every acknowledged change is found that no later one undid, and nothing that
 was never asked. Uids are never given again. It prints how many requests were acknowledged, and how often the one more was found.
 """
+import io
 import json
 import os
 import random
-import re
 import subprocess
 import sys
 import tempfile
 import threading
 import time
 
+import frames
+
 NAMES = [f"com.p{number}" for number in range(6)]
 PERMISSIONS = [f"p.{number}" for number in range(3)]
 HOSTS = [f"h{number}.org" for number in range(3)]
 WEB = {"action": ["android.intent.action.VIEW"], "category": ["android.intent.category.DEFAULT"], "data": [{"scheme": "https"}]}
-RESPONSE = re.compile(rb"HTTP/1\.1 (\d+) [^\r]*\r\n(?:[^\r]+\r\n)*?Content-Length: (\d+)\r\n(?:[^\r]+\r\n)*\r\n")
 
 
 def toml(value):
@@ -44,22 +45,19 @@ def device():
 
 
 def frame(key, path, body=None):
-    if body is None:
-        return f"GET {path} HTTP/1.1\r\nAM-Key: {key}\r\n\r\n".encode()
-    text = json.dumps(body, separators=(",", ":"))
-    return f"POST {path} HTTP/1.1\r\nAM-Key: {key}\r\nContent-Length: {len(text)}\r\n\r\n{text}".encode()
+    return frames.frame(key, path, None if body is None else json.dumps(body, separators=(",", ":")))
 
 
 def responses(output):
     """The whole responses: status and body."""
-    at, found = 0, []
-    while head := RESPONSE.match(output, at):
-        end = head.end() + int(head[2])
-        if end > len(output):
-            break
-        found.append((int(head[1]), json.loads(output[head.end():end])))
-        at = end
-    return found
+    reader, found = frames.Reader(io.BytesIO(output).read), []
+    while True:
+        try:
+            response = reader.response()
+        except frames.BadFrame:
+            # the end, perhaps inside a response
+            return found
+        found.append((response.status, json.loads(response.body)))
 
 
 class Model:
@@ -109,8 +107,8 @@ def asked(request):
     return frame("sys", "/v1/" + kind, body)
 
 
-def session(program, folder, frames):
-    run = subprocess.run([program, *words(folder)], input=b"".join(frames), capture_output=True)
+def session(program, folder, asked):
+    run = subprocess.run([program, *words(folder)], input=b"".join(asked), capture_output=True)
     if run.returncode:
         sys.exit(f"store_kill: status {run.returncode}: {run.stderr.decode()}")
     return responses(run.stdout)

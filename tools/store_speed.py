@@ -13,6 +13,8 @@ import subprocess
 import sys
 import time
 
+from frames import frame
+
 CREATE = """CREATE TABLE IF NOT EXISTS kept (kind INTEGER NOT NULL, uid INTEGER NOT NULL, word TEXT NOT NULL,
   name TEXT NOT NULL, access TEXT NOT NULL, manifest TEXT NOT NULL,
   truth INTEGER NOT NULL, PRIMARY KEY (kind, uid, word)) STRICT"""
@@ -40,8 +42,8 @@ def grants(count):
     made = []
     for number in range(count):
         body = f'{{"package":"com.p{number // EACH}","permission":"p.{number % EACH}","held":true}}'
-        made.append(f"POST /v1/grant HTTP/1.1\r\nAM-Key: sys\r\nContent-Length: {len(body)}\r\n\r\n{body}")
-    return "".join(made)
+        made.append(frame("sys", "/v1/grant", body))
+    return b"".join(made).decode()
 
 
 def seconds(words, frames):
