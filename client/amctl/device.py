@@ -54,7 +54,13 @@ class Device:
         cls, path: str | Path, *, am: str | Path | None = None, store: str | Path | None = None, at: int = 0, step: int = 0
     ) -> "Device":
         """A session of its own. The first call is at the moment `at`, each later one `step` milliseconds after the one before it."""
-        file = DeviceFile.read(path)
+        return cls.of_file(DeviceFile.read(path), am=am, store=store, at=at, step=step)
+
+    @classmethod
+    def of_file(
+        cls, file: DeviceFile, *, am: str | Path | None = None, store: str | Path | None = None, at: int = 0, step: int = 0
+    ) -> "Device":
+        """A session of its own on a device file that was read."""
         kept = None if store is None else checked_store(Path(store))
         device = cls(Pipes(find_am(am), file.path, store=kept, at=at, step=step), file, am=am, store=kept)
         device._check()

@@ -8,6 +8,7 @@ import socket
 import subprocess
 import sys
 import time
+import tomllib
 import xml.etree.ElementTree as ElementTree
 from collections.abc import Callable, Iterator
 from pathlib import Path
@@ -279,7 +280,7 @@ def test_another_program_is_asked_anew(four: Path, tmp_path: Path, monkeypatch: 
     (tmp_path / "till.toml").write_text(TILL, encoding="utf-8")
     ran: list[str] = []
 
-    def run_job(job: jobs.Job, sessions: Sessions | None = None) -> dict[str, Any]:
+    def run_job(job: jobs.Job, sessions: Sessions) -> dict[str, Any]:
         ran.append(type(job).__name__)
         return jobs.run_job(job, sessions)
 
@@ -467,10 +468,38 @@ def test_jobs_on_one_device_share_its_session(four: Path, tmp_path: Path, monkey
     # all apps at once on a bare device, the device that is surveyed, and its session
     assert len(opened) == 3
     # what is kept of each app is the same as if each had been asked by itself
-    own = [jobs.run_job(jobs.AskOne(it, opened[-1], None, "")) for it in made.names_of(opened[-1])]
-    with Sessions() as sessions:
-        assert [jobs.run_job(jobs.AskOne(it, opened[-1], None, ""), sessions) for it in made.names_of(opened[-1])] == own
-    assert len(opened) == 3 + len(own) + 1
+    ones = [jobs.AskOne(it, opened[-1], None, "") for it in made.names_of(opened[-1])]
+    own = [found for it in ones for found in jobs.run_jobs([it])]
+    assert len(opened) == 3 + len(ones)
+    # another process is asked for several at once, by one session
+    assert jobs.run_jobs(ones) == own
+    assert len(opened) == 3 + len(ones) + 1
+
+
+def test_a_batch_is_half_of_what_is_left_for_a_process() -> None:
+    work: dict[str, jobs.Job] = {str(it): jobs.Read(Path("."), str(it), (0, 0)) for it in range(50)}
+    batches = list(mapping._batches(work, 4))
+    assert [key for batch in batches for key in batch] == list(work)
+    assert [len(it) for it in batches] == [6, 5, 4, 4, 3, 3, 3, 2, 2, 2, 2, *[1] * 14]
+    assert [len(it) for it in mapping._batches({str(it): work["0"] for it in range(1000)}, 1)][:2] == [16, 16]
+    assert list(mapping._batches({}, 4)) == []
+
+
+@pytest.mark.parametrize("is_each", [False, True])
+def test_each_device_is_parsed_once(four: Path, tmp_path: Path, monkeypatch: pytest.MonkeyPatch, is_each: bool) -> None:
+    (tmp_path / "till.toml").write_text(TILL, encoding="utf-8")
+    texts: list[str] = []
+    made.parsed.cache_clear()
+
+    def parse(path: Path, text: str) -> DeviceFile:
+        texts.append(text)
+        return DeviceFile(path, text, tomllib.loads(text))
+
+    monkeypatch.setattr(DeviceFile, "parse", parse)
+    main(Asked(four, tmp_path / "till.toml", is_each, tmp_path / "found"))
+    # the given one, which is also opened by itself, is a file of its own
+    twice = [it for it in dict.fromkeys(texts) if texts.count(it) > 1 and it != TILL]
+    assert twice == [] and len(texts) > 3
 
 
 def test_an_app_that_am_refuses_takes_none_of_the_others_with_it(four: Path, tmp_path: Path) -> None:
@@ -508,7 +537,7 @@ def test_an_app_that_its_copy_refuses_is_unreadable() -> None:
     app = App("a.toml", "com.news", made.written(DeviceFile.parse(Path("a"), NEWS).document))
     empty = App("b.toml", "com.empty", made.written(DeviceFile.parse(Path("b"), EMPTY).document))
     device = made.device_of(made.parsed(made.BARE), [app, empty])
-    found = jobs.run_job(jobs.AskEach(app, device, None, ""))
+    [found] = jobs.run_jobs([jobs.AskEach(app, device, None, "")])
     assert found.keys() == {"file", "reason"} and found["reason"].endswith("(duplicate com.news)")
 
 

@@ -3,6 +3,7 @@ import hashlib
 import json
 import os
 import re
+from collections.abc import Sequence
 from dataclasses import dataclass, field
 from pathlib import Path
 from typing import Any, Protocol
@@ -27,12 +28,15 @@ class Job(Protocol):
     def run(self, sessions: Sessions) -> dict[str, Any]: ...
 
 
-def run_job(job: Job, sessions: Sessions | None = None) -> dict[str, Any]:
-    """What a job gives, on the sessions of those before it or on its own."""
-    if sessions is not None:
-        return job.run(sessions)
-    with Sessions() as own:
-        return job.run(own)
+def run_job(job: Job, sessions: Sessions) -> dict[str, Any]:
+    """What a job gives, on the session of the one before it if that asked the same device."""
+    return job.run(sessions)
+
+
+def run_jobs(jobs: Sequence[Job]) -> list[dict[str, Any]]:
+    """What jobs give, in their order, as another process is asked for it."""
+    with Sessions() as sessions:
+        return [run_job(it, sessions) for it in jobs]
 
 
 def key_of(*parts: object) -> str:

@@ -1,4 +1,5 @@
 """The device on which the apps are: a given one, or one that has nothing, with the apps added."""
+import dataclasses
 import functools
 import re
 import tempfile
@@ -83,4 +84,4 @@ def opened(text: str, am: Path | None) -> Device:
     with tempfile.TemporaryDirectory(prefix=PREFIX) as folder:
         path = Path(folder) / NAME
         path.write_text(text, encoding="utf-8")
-        return Device.open(path, am=am)
+        return Device.of_file(dataclasses.replace(parsed(text), path=path), am=am)

@@ -16,11 +16,13 @@ from typing import Any
 from amctl import words_survey
 from amctl.errors import AmctlError, BadWords
 from amctl.survey.asking import Sessions
-from amctl.survey.jobs import Job, run_job
+from amctl.survey.jobs import Job, run_job, run_jobs
 
 Done = Iterator[tuple[str, dict[str, Any]]]
 Run = Callable[[Mapping[str, Job], str, int], Done]
-# at most so many jobs for each thread of a Dask worker are under way: each carries what it reads
+# the jobs of a batch share a session, and what they carry is sent once; at most so many are lost with a process
+MOST_IN_BATCH = 16
+# at most so many batches for each thread of a Dask worker are under way: each carries what it reads
 AHEAD = 4
 PATIENCE = "20s"
 
@@ -44,7 +46,7 @@ def runner(jobs: int, dask: str | None) -> Iterator[Run]:
         # a fork would copy the thread that shows the progress, and not what it holds
         pool = concurrent.futures.ProcessPoolExecutor(jobs, multiprocessing.get_context("spawn"), _begin_worker)
         try:
-            yield partial(_shown, partial(_on_processors, pool))
+            yield partial(_shown, partial(_on_processors, pool, jobs))
         finally:
             pool.shutdown(cancel_futures=True)
 
@@ -55,11 +57,20 @@ def _here(jobs: Mapping[str, Job]) -> Done:
             yield key, run_job(job, sessions)
 
 
-def _on_processors(pool: concurrent.futures.Executor, jobs: Mapping[str, Job]) -> Done:
-    keys = {pool.submit(run_job, job): key for key, job in jobs.items()}
+def _batches(jobs: Mapping[str, Job], processes: int) -> Iterator[dict[str, Job]]:
+    """The jobs in their order: each batch is a process's half of what is left, so that all end at much the same time."""
+    rest, left = iter(jobs.items()), len(jobs)
+    while left:
+        size = max(1, min(MOST_IN_BATCH, left // (2 * processes)))
+        yield dict(itertools.islice(rest, size))
+        left -= size
+
+
+def _on_processors(pool: concurrent.futures.Executor, processes: int, jobs: Mapping[str, Job]) -> Done:
+    batches = {pool.submit(run_jobs, list(it.values())): it for it in _batches(jobs, processes)}
     try:
-        for future in concurrent.futures.as_completed(keys):
-            yield keys[future], future.result()
+        for future in concurrent.futures.as_completed(batches):
+            yield from zip(batches[future], future.result())
     except BrokenProcessPool:
         raise JobFault(words_survey.JOB_ENDED) from None
 
@@ -96,25 +107,25 @@ def _client(address: str) -> Any:
 
 def _over_dask(client: Any, jobs: Mapping[str, Job]) -> Done:
     distributed = importlib.import_module("distributed")
-    waiting = iter(jobs.items())
-    keys: dict[str, str] = {}
+    threads = max(1, sum(client.ncores().values()))
+    waiting = _batches(jobs, threads)
+    keys: dict[str, list[str]] = {}
 
-    def submit(job: tuple[str, Job]) -> Any:
-        future = client.submit(run_job, job[1], pure=False)
-        keys[future.key] = job[0]
+    def submit(batch: dict[str, Job]) -> Any:
+        future = client.submit(run_jobs, list(batch.values()), pure=False)
+        keys[future.key] = list(batch)
         return future
 
-    ahead = AHEAD * max(1, sum(client.ncores().values()))
-    under_way = distributed.as_completed([submit(it) for it in itertools.islice(waiting, ahead)])
+    under_way = distributed.as_completed([submit(it) for it in itertools.islice(waiting, AHEAD * threads)])
     for future in under_way:
-        yield keys.pop(future.key), _result(future)
-        for job in itertools.islice(waiting, 1):
-            under_way.add(submit(job))
+        yield from zip(keys.pop(future.key), _result(future))
+        for batch in itertools.islice(waiting, 1):
+            under_way.add(submit(batch))
 
 
-def _result(future: Any) -> dict[str, Any]:
+def _result(future: Any) -> list[dict[str, Any]]:
     try:
-        found: dict[str, Any] = future.result()
+        found: list[dict[str, Any]] = future.result()
         return found
     except AmctlError:
         raise
