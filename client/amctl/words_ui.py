@@ -206,8 +206,10 @@ def deadline(due: int, last: int) -> str:
     return f"until {moment(due)}, {due - last:,} ms after the last call"
 
 
-def last_call(milliseconds: int) -> str:
-    return f"The last call was at {moment(milliseconds)}."
+def last_call(last: int, due: int | None) -> str:
+    """The moment, and what is due next, if that is known."""
+    ahead = "" if due is None else f"; the next deadline is {due - last:,} ms later, at {moment(due)}"
+    return f"The last call was at {moment(last)}{ahead}."
 
 
 def moment(milliseconds: int) -> str:

@@ -203,6 +203,10 @@ def test_a_device_of_many_apps_is_answered_by_what_decides(tmp_path: Path) -> No
         news = page.ask(**{"from": "com.browser", "kind": "receiver", "action": NEWS, "data": ""})
         assert news["line"] == "com.app01/.News, com.app02/.News, com.app03/.News, com.app04/.News and 55 more get it."
         assert (len(news["accounts"]), [it["label"] for it in news["groups"]]) == (10, ["49 more that get it"])
+        # what asks for something else altogether is folded too, and nothing of it is shown
+        named = page.ask(**{"from": "com.browser", "action": "", "data": "", "component": "com.app07/.Main"})
+        assert [it["to"] for it in named["accounts"]] == ["com.app07/.Main"]
+        assert [it["label"] for it in named["groups"]] == ["70 that the intent doesn't name"]
         # if nothing comes nearer, what is misspelt is seen by what stands there
         none = page.ask(**{"from": "com.browser", "action": "android.intent.action.MAINLY", "data": ""})
         assert none["accounts"][0]["says"] == "its filter doesn't list the action MAINLY, but VIEW"
@@ -279,6 +283,7 @@ def test_deadlines_are_the_program_s(shop: Page) -> None:
     app.send(ORDER.with_flag("FOREGROUND"), ordered=True)
     shop.device.advance(4000)
     app.send(ORDER)
+    assert shop.get("now")["moment"] == "The last call was at 4000 ms; the next deadline is 6,000 ms later, at 10000 ms."
     ordered, normal = shop.get("now")["broadcasts"]
     assert [it["left"] for it in ordered["rows"]] == ["until 10000 ms, 6,000 ms after the last call", ""]
     assert [it["left"] for it in normal["rows"]] == ["until 64000 ms, 60,000 ms after the last call"] * 2
@@ -287,6 +292,19 @@ def test_deadlines_are_the_program_s(shop: Page) -> None:
     assert [(it["state"], it["left"]) for it in later] == [("done", ""), ("turn", "until 20000 ms, 10,000 ms after the last call")]
     shop.device.advance(10_000)
     assert [it["broadcast"] for it in shop.get("now")["broadcasts"]] == [2]
+    shop.device.advance(44_000)
+    assert (shop.get("now")["broadcasts"], shop.get("now")["moment"]) == ([], "The last call was at 64000 ms.")
+
+
+def test_one_delivery_has_the_one_deadline(shop: Page, monkeypatch: pytest.MonkeyPatch) -> None:
+    monkeypatch.setattr("amctl.ui.desk.MOST_COPIED", 0)
+    shop.device.app("com.shop").send(ORDER, ordered=True)
+    assert shop.get("now")["broadcasts"][0]["rows"][0]["left"] == "until 60000 ms, 60,000 ms after the last call"
+    # of several ones after very many calls only the next is known
+    shop.device.app("com.shop").send(ORDER)
+    found = shop.get("now")
+    assert [row["left"] for it in found["broadcasts"] for row in it["rows"]] == [""] * 4
+    assert found["moment"] == "The last call was at 0 ms; the next deadline is 60,000 ms later, at 60000 ms."
 
 
 def test_calls_are_made_again_at_their_moments() -> None:

@@ -1,4 +1,6 @@
-"""The page in a browser. With AM_SCREENSHOTS=FOLDER the views are kept there as small pictures."""
+"""The page in a browser.
+
+With AM_SCREENSHOTS=FOLDER the documents' pictures are kept there, and with AM_GLANCES=FOLDER some that show what is hard to draw."""
 import os
 import shutil
 import subprocess
@@ -105,13 +107,19 @@ def pressed(browser: Chrome, selector: str) -> bool:
     return True
 
 
-def keep(browser: Chrome, name: str) -> None:
-    """Keeps a picture of the view, if one is asked for."""
-    folder = os.environ.get("AM_SCREENSHOTS")
+def keep(browser: Chrome, name: str, variable: str = "AM_SCREENSHOTS") -> None:
+    """Keeps a picture of the view for the documents, if one is asked for."""
+    folder = os.environ.get(variable)
     if folder:
+        browser.execute_script("window.scrollTo(0, 0)")  # type: ignore[no-untyped-call]
         picture = browser.get_screenshot_as_png()
         assert len(picture) < SHOT_LIMIT
         (Path(folder) / f"page-{name}.png").write_bytes(picture)
+
+
+def glance(browser: Chrome, name: str) -> None:
+    """Keeps a picture that no document shows, for whoever changes how the page looks."""
+    keep(browser, f"{name}-{measured(browser, 'innerWidth')}", "AM_GLANCES")
 
 
 def ask(browser: Chrome, link: str, caller: str = "com.browser") -> None:
@@ -280,7 +288,7 @@ def test_sixty_apps_fit(browser: Chrome, tmp_path: Path, size: tuple[int, int]) 
         assert text(browser, "#answer .line") == "com.browser/.Page opens."
         assert measured(browser, "document.getElementById('answer').offsetHeight") <= 3 * size[1]
         assert [it.text for it in browser.find_elements(By.CSS_SELECTOR, "#answer .fold")] == ["59 whose filters don't list the action", "1 not approved for the host"]
-        keep(browser, f"sixty-{size[0]}")
+        keep(browser, "sixty" if size == WIDE else "narrow")
         # by the contents to what is folded, and by the search to one of it
         at(browser, "#answer .contents button:nth-child(2)").send_keys(Keys.ENTER)
         until(lambda: len(browser.find_elements(By.CSS_SELECTOR, "#answer .fold .card")) == 59)
@@ -291,7 +299,7 @@ def test_sixty_apps_fit(browser: Chrome, tmp_path: Path, size: tuple[int, int]) 
         at(browser, "#tab-device").click()
         until(lambda: len(browser.find_elements(By.CSS_SELECTOR, "#installed .fold")) == 60)
         assert measured(browser, "document.documentElement.scrollHeight") <= 3 * size[1]
-        keep(browser, f"apps-{size[0]}")
+        glance(browser, "apps")
         at(browser, "#installed .contents button:nth-child(60)").send_keys(Keys.ENTER)
         until(lambda: browser.switch_to.active_element.text == "com.app59 · 3 components, 3 for any app")
         at(browser, "#installed [type=search]").send_keys(".Offers")
@@ -336,11 +344,11 @@ def test_names_of_sixty_characters_scroll_nothing_sideways(browser: Chrome, tmp_
         at(browser, ".extra .key").send_keys(long("extra"))
         at(browser, "[name=component]").send_keys(f"{app.package}/{long('.activity')}")
         assert sideways(browser) == 0
-        keep(browser, f"names-ask-{size[0]}")
+        glance(browser, "names-ask")
         at(browser, "#tab-now").click()
         until(lambda: bool(browser.find_elements(By.CSS_SELECTOR, ".turns .turn")) and bool(text(browser, "#registered")))
         assert sideways(browser) == 0
-        keep(browser, f"names-now-{size[0]}")
+        glance(browser, "names-now")
         at(browser, "#tab-history").click()
         until(lambda: text(browser, "#call-0").startswith("0 · "))
         for number in range(5):
@@ -348,11 +356,11 @@ def test_names_of_sixty_characters_scroll_nothing_sideways(browser: Chrome, tmp_
             assert sideways(browser) == 0
         until(lambda: pressed(browser, "[data-copy=test]") and at(browser, "pre.copied").is_displayed())
         assert sideways(browser) == 0
-        keep(browser, f"names-history-{size[0]}")
+        glance(browser, "names-history")
         at(browser, "#tab-device").click()
         until(lambda: "any app" in text(browser, "#installed"))
         assert sideways(browser) == 0
-        keep(browser, f"names-device-{size[0]}")
+        glance(browser, "names-device")
         assert faults(browser) == []
 
 
@@ -373,7 +381,7 @@ def test_refused_calls_are_marked_filtered_and_copied_as_one_test(browser: Chrom
         until(lambda: text(browser, "#count") == "1 of 4 stored calls")
         at(browser, "#timeline").send_keys(Keys.END)
         until(lambda: text(browser, "#entry h2") == "3 · finish · com.guard")
-        keep(browser, "refused")
+        glance(browser, "refused")
         at(browser, "[data-copy=test]").click()
         until(lambda: "test_calls_0_to_3" in text(browser, "pre.copied"))
         (tmp_path / "test_pasted.py").write_text(text(browser, "pre.copied"), encoding="utf-8")

@@ -60,8 +60,9 @@ function fill(fields) {
 async function ask(note = "") {
   const found = await call("/api/ask", question());
   if (!found) return;
-  if (found.error) byId("answer").replaceChildren(make("p", { className: "line", textContent: found.error }));
-  else byId("answer").replaceChildren(...answer(found, note));
+  // the line alone is read out; a search redraws the rest
+  byId("line").textContent = found.error || found.line;
+  byId("accounts").replaceChildren(...(found.error ? [] : answer(found, note)));
 }
 
 function answer(found, note) {
@@ -72,7 +73,6 @@ function answer(found, note) {
   draw("");
   return [
     ...copyNote(found.changes),
-    make("p", { className: "line", textContent: found.line, tabIndex: -1 }),
     ...(note ? [make("p", { className: "quiet", textContent: note })] : []),
     ...(isLong ? [search(WORDS.find, draw)] : []),
     place,
@@ -100,7 +100,7 @@ function copyNote(made) {
   const back = button(WORDS.back_to_device, async () => {
     changes = [];
     await ask();
-    byId("answer").querySelector(".line").focus();
+    byId("line").focus();
   });
   return [make("div", { className: "copy" }, make("span", { textContent: `${WORDS.on_copy}: ${made.map((it) => it.label).join("; ")}` }), back)];
 }
@@ -111,7 +111,7 @@ function account(found) {
   for (const it of found.buttons) card.append(button(it.label, async () => {
     changes = [...changes, it];
     await ask();
-    byId("answer").querySelector(".copy button")?.focus();
+    byId("accounts").querySelector(".copy button")?.focus();
   }));
   return card;
 }
@@ -142,7 +142,8 @@ export function startAsk(about) {
   byId("example").onclick = example;
   byId("clear").onclick = () => {
     fill({});
-    byId("answer").replaceChildren();
+    byId("line").textContent = "";
+    byId("accounts").replaceChildren();
     form.elements.action.focus();
   };
   return example();

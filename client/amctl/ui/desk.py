@@ -14,10 +14,12 @@ from amctl.results import Entry
 from amctl.ui import ask, now, past
 from amctl.ui.copies import as_one_test, copies
 from amctl.ui.example import example
-from amctl.ui.now import Waiting
+from amctl.ui.now import Due
 from amctl.ui.past import INSTALL, Replay, Reply, Wanted, entries, entry_at, public
 
 PAGE_LENGTH = 64
+# whose deadline is which takes a copy of the device, after each call anew
+MOST_COPIED = 2000
 # a look at a replay asks for its tasks twice and its services once, and for the inboxes
 LOOKS = 3
 
@@ -33,8 +35,7 @@ class Desk:
         # one replay follows the history, the other steps back and forth in it
         self._following: Replay | None = None
         self._stepping: Replay | None = None
-        # the deadlines of the live deliveries after so many calls
-        self._due: tuple[int, dict[int, int]] | None = None
+        self._due: Due | None = None
 
     @property
     def _note(self) -> str:
@@ -48,7 +49,7 @@ class Desk:
     def about(self) -> dict[str, Any]:
         """Whom and what the form can name, the question with which it begins, and the device's name."""
         with self._lock:
-            names = self._names()
+            names = self._names(self._live())
             file = self.device.file
             root = [ROOT] if "root_key" in file.document else []
             return {
@@ -84,10 +85,11 @@ class Desk:
             status = self.device.system.status()
             replay = self._followed(status.history)
             found = now.waiting(self.device, replay.keys)
+            due = self._looked_ahead(status.history, replay, now.deliveries(found))
             return {
-                "moment": words_ui.last_call(status.moment) if status.history else "",
+                "moment": words_ui.last_call(status.moment, due.next) if status.history else "",
                 "tasks": now.tasks(self.device),
-                "broadcasts": now.broadcasts(found, _admitted(replay), self._deadlines(status.history, found), status.moment),
+                "broadcasts": now.broadcasts(found, _admitted(replay), due.of, status.moment),
                 "results": now.outcomes(found),
                 "services": now.services(self.device),
                 "registered": now.registered(self.device, _registered(replay)),
@@ -141,9 +143,8 @@ class Desk:
     def packages(self) -> dict[str, Any]:
         """The packages that are on the device now, with what the file says of them."""
         with self._lock:
-            live = {str(it.to) for kind in KINDS for it in self.device.system.explain(kind, Intent()) if isinstance(it.to, str)}
-            known = self._components()
-            return {"packages": [self._package(name, [_component(known.get(it), it) for it in sorted(live) if it.startswith(f"{name}/")]) for name in self._names()]}
+            live, known = self._live(), self._components()
+            return {"packages": [self._package(name, [_component(known.get(it), it) for it in sorted(live) if it.startswith(f"{name}/")]) for name in self._names(live)]}
 
     def _package(self, name: str, components: list[dict[str, Any]]) -> dict[str, Any]:
         file = self.device.file
@@ -155,11 +156,17 @@ class Desk:
             "links": [it.host for it in file.links if it.package == name],
         }
 
-    def _names(self) -> list[str]:
+    def _live(self) -> set[str]:
+        """The components that are on the device now."""
+        return {str(it.to) for kind in KINDS for it in self.device.system.explain(kind, Intent()) if isinstance(it.to, str)}
+
+    def _names(self, live: set[str]) -> list[str]:
         """The packages of the file and those that the history installed, as far as they are there."""
         replay = self._followed(self.device.system.status().history)
         named = [name for uid, name in replay.keys.names.items() if uid >= past.FIRST_UID]
-        return [it for it in dict.fromkeys(named) if self.device.is_installed(it)]
+        seen = {it.partition("/")[0] for it in live}
+        # a package without components has to be asked for
+        return [it for it in dict.fromkeys(named) if it in seen or self.device.is_installed(it)]
 
     def _components(self) -> dict[str, Component]:
         of_file = {it.component: it for package in self.device.file.packages for it in package.components}
@@ -184,7 +191,9 @@ class Desk:
 
     def _stepped(self, number: int) -> Replay:
         """The replay before this call, as far as it goes."""
-        if self._stepping is not None and (self._stepping.position > number or self._stepping.is_full):
+        is_reached = number < self._followed(number + 1).position
+        # looks fill a session too: then it begins anew, unless none comes as far as this call
+        if self._stepping is not None and (self._stepping.position > number or (self._stepping.is_full and is_reached)):
             self._stepping.close()
             self._stepping = None
         if self._stepping is None:
@@ -203,14 +212,20 @@ class Desk:
         copy.follow(self.device, self.device.system.status().history)
         return copy
 
-    def _deadlines(self, history: int, found: tuple[Waiting, ...]) -> Mapping[int, int]:
-        """When the live deliveries are late, as a copy of the device answers it. A copy that can't be made whole doesn't tell."""
-        if not now.deliveries(found):
-            return {}
-        if self._due is None or self._due[0] != history:
-            with closing(self._copy()) as copy:
-                self._due = history, {} if copy.position < history else now.deadlines(copy)
-        return self._due[1]
+    def _looked_ahead(self, calls: int, replay: Replay, live: set[int]) -> Due:
+        """The deadlines after so many calls, as a replay answers them; one that isn't whole doesn't tell."""
+        if self._due is None or self._due.calls != calls:
+            self._due = Due(calls) if replay.position < calls else self._deadlines(replay, live)
+        return self._due
+
+    def _deadlines(self, replay: Replay, live: set[int]) -> Due:
+        first = replay.advance(0)
+        if first is None or len(live) == 1:
+            return Due(replay.position, first, {} if first is None else dict.fromkeys(live, first))
+        if replay.position > MOST_COPIED:
+            return Due(replay.position, first)
+        with closing(self._copy()) as copy:
+            return Due(replay.position, first, now.deadlines(copy))
 
 
 def _admitted(replay: Replay) -> dict[int, list[str]]:

@@ -42,17 +42,18 @@ function broadcast(found) {
   const name = `${WORDS.broadcast} ${found.broadcast}, ${found.ordered ? WORDS.ordered : WORDS.normal}`;
   const head = [make("strong", { textContent: name }), make("small", { className: "small", textContent: found.intent })];
   const states = ["done", "turn", "gets", "waits"].map((state) => found.rows.filter((it) => it.state === state)).filter((it) => it.length);
-  const lists = found.rows.length > MOST ? states.map((rows) => turnsFolded(found.broadcast, rows)) : [turns(found.rows)];
+  const lists = found.rows.length > MOST ? states.map((rows) => turnsFolded(found, rows)) : [turns(found.rows, 1)];
   return make("div", { className: "card reached" }, ...head, ...lists);
 }
 
-function turnsFolded(number, rows) {
+function turnsFolded(found, rows) {
   const state = rows[0].state;
-  return state === "turn" ? turns(rows) : fold(`${rows.length} ${WORDS[`many_${state}`]}`, () => [turns(rows)], { key: `${number} ${state}` });
+  const list = () => turns(rows, found.rows.indexOf(rows[0]) + 1);
+  return state === "turn" ? list() : fold(`${rows.length} ${WORDS[`many_${state}`]}`, () => [list()], { key: `${found.broadcast} ${state}` });
 }
 
-function turns(rows) {
-  return make("ul", { className: "turns" }, ...rows.map((it) => {
+function turns(rows, start) {
+  return make("ol", { className: "turns", start }, ...rows.map((it) => {
     const texts = [it.so_far, it.left].filter(Boolean).join(" · ");
     return make("li", { className: it.state }, `${it.to} ${WORDS[it.state]}`, texts ? make("small", { className: "small", textContent: texts }) : "");
   }));

@@ -1,6 +1,6 @@
 """The view Now: tasks, live broadcasts, services and registered receivers."""
 from collections.abc import Iterator, Mapping
-from dataclasses import dataclass
+from dataclasses import dataclass, field
 from typing import Any
 
 from amctl import words, words_ui
@@ -64,6 +64,15 @@ def deadlines(copy: Replay) -> dict[int, int]:
         found |= dict.fromkeys(gone, due)
         left, due = left - gone, next_due
     return found
+
+
+@dataclass(frozen=True)
+class Due:
+    """After so many calls: the earliest deadline, and that of each live delivery as far as it is known."""
+
+    calls: int
+    next: int | None = None
+    of: Mapping[int, int] = field(default_factory=dict)
 
 
 def broadcasts(found: tuple[Waiting, ...], sent: Mapping[int, list[str]], due: Mapping[int, int], moment: int) -> list[dict[str, Any]]:
