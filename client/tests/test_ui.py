@@ -1,4 +1,5 @@
 """The page's gateway, without a browser: what it answers, what it refuses, and that no key leaves it."""
+import re
 import shlex
 import signal
 import socket
@@ -13,6 +14,7 @@ import pytest
 from amctl import Device, Intent, IntentFilter, Refusal
 from amctl.results import Entry
 from conftest import EXAMPLES, port_of, run_python, started
+from ui_devices import LINK as SHOP, NEWS, many_apps
 
 pytest.importorskip("httpx", reason="Debian's python3-httpx isn't installed")
 pytest.importorskip("starlette", reason="Debian's python3-starlette isn't installed")
@@ -23,8 +25,10 @@ from starlette.testclient import TestClient
 
 from amctl import words_ui
 from amctl.ui import run
+from amctl.ui.ask import Question
 from amctl.ui.desk import Desk, note_on
-from amctl.ui.gateway import make_app
+from amctl.ui.example import example
+from amctl.ui.gateway import SCRIPTS, make_app
 from amctl.ui.past import Replay
 
 PORT = 8080
@@ -143,6 +147,72 @@ def test_a_question_that_is_refused_is_said(page: Page, fields: dict[str, Any], 
     assert page.ask(**fields)["error"].startswith(sentence)
 
 
+def test_every_field_of_an_intent_is_asked(page: Page) -> None:
+    named = page.ask(action="", data="", component="com.photos/.Viewer")
+    assert named["line"] == "com.photos/.Viewer opens."
+    wrong = page.ask(flags=["NEW_TASKS"])
+    assert "NEW_TASKS" in wrong["error"]
+    extras = [{"key": "a b", "sort": "text", "value": "it's"}, {"key": "n", "sort": "number", "value": "-7"}, {"key": "", "sort": "text", "value": ""}]
+    asked = Question.of({**QUESTION, "flags": ["NEW_TASK"], "extras": [*extras, {"key": "all", "sort": "truth", "value": "true"}]})
+    assert asked.intent.extras == {"a b": "it's", "n": -7, "all": True}
+    assert (asked.intent.flags, page.ask(extras=extras)["line"]) == (("NEW_TASK",), "com.browser/.Page opens.")
+
+
+@pytest.mark.parametrize(
+    ("extra", "sentence"),
+    [
+        ({"key": "n", "sort": "number", "value": "7.5"}, words_ui.no_number("n", "7.5")),
+        ({"key": "n", "sort": "number", "value": str(2**63)}, words_ui.no_number("n", str(2**63))),
+        ({"key": "t", "sort": "truth", "value": "yes"}, words_ui.no_truth("t", "yes")),
+        ({"key": "", "sort": "text", "value": "cats"}, words_ui.no_extra_name("cats")),
+    ],
+)
+def test_an_extra_of_another_sort_is_said(page: Page, extra: dict[str, str], sentence: str) -> None:
+    assert page.ask(extras=[extra])["error"] == sentence
+
+
+def test_a_receiver_s_permission_is_asked(shop: Page) -> None:
+    asked = {"from": "com.shop", "kind": "receiver", "action": "org.example.ORDER", "data": ""}
+    assert shop.ask(**asked)["line"] == "com.shop/.Ledger and com.guard/.Check get it."
+    lacking = shop.ask(**asked, permission="org.example.AUDIT")
+    button = lacking["accounts"][0]["buttons"][0]
+    assert (lacking["line"], button["label"]) == ("Nobody gets it.", "Grant com.shop org.example.AUDIT")
+    assert shop.ask(**asked, permission="org.example.AUDIT", changes=[button])["line"] == "com.shop/.Ledger gets it."
+
+
+def test_the_example_is_a_question_that_the_device_answers(page: Page, shop: Page, tmp_path: Path) -> None:
+    link = page.get("about")["example"]
+    assert link == {"from": "com.browser", "kind": "activity", "action": "android.intent.action.VIEW", "data": "https://any.photos.example/album/any"}
+    assert page.ask(**link)["line"] == "com.browser/.Page opens."
+    order = shop.get("about")["example"]
+    assert order == {"from": "com.shop", "kind": "receiver", "action": "org.example.ORDER"}
+    assert shop.ask(**{"data": "", **order})["line"] == "com.shop/.Ledger and com.guard/.Check get it."
+    (tmp_path / "device.toml").write_text('system_key = "s"\n', encoding="utf-8")
+    with Device.open(tmp_path / "device.toml") as empty:
+        assert example(empty.file) == {"from": "android", "kind": "activity", "action": "android.intent.action.VIEW"}
+
+
+def test_a_device_of_many_apps_is_answered_by_what_decides(tmp_path: Path) -> None:
+    with closing(Page(Device.open(many_apps(tmp_path, 60)))) as page:
+        found = page.ask(**{"from": "com.app01", "data": SHOP})
+        assert [it["to"] for it in found["accounts"]] == ["com.browser/.Page", *(f"com.app{it:02}/.Offers" for it in range(5, 51, 5))]
+        assert [it["label"] for it in found["groups"]] == ["59 whose filters don't list the action", "1 not approved for the host"]
+        assert [it["to"] for it in found["groups"][1]["accounts"]] == ["com.app55/.Offers"]
+        # nobody is lost
+        assert len(found["accounts"]) + sum(len(it["accounts"]) for it in found["groups"]) == len(page.device.system.explain("activity", Intent()))
+        news = page.ask(**{"from": "com.browser", "kind": "receiver", "action": NEWS, "data": ""})
+        assert news["line"] == "com.app01/.News, com.app02/.News, com.app03/.News, com.app04/.News and 55 more get it."
+        assert (len(news["accounts"]), [it["label"] for it in news["groups"]]) == (10, ["49 more that get it"])
+        # what asks for something else altogether is folded too, and nothing of it is shown
+        named = page.ask(**{"from": "com.browser", "action": "", "data": "", "component": "com.app07/.Main"})
+        assert [it["to"] for it in named["accounts"]] == ["com.app07/.Main"]
+        assert [it["label"] for it in named["groups"]] == ["70 that the intent doesn't name"]
+        # if nothing comes nearer, what is misspelt is seen by what stands there
+        none = page.ask(**{"from": "com.browser", "action": "android.intent.action.MAINLY", "data": ""})
+        assert none["accounts"][0]["says"] == "its filter doesn't list the action MAINLY, but VIEW"
+        assert (len(none["accounts"]), none["groups"][0]["label"]) == (10, "61 whose filters don't list the action")
+
+
 def test_another_host_is_refused(page: Page) -> None:
     got = page.client.get("/api/now", headers={"Host": f"evil.example:{PORT}"})
     assert (got.status_code, got.json()) == (403, {"error": words_ui.OTHER_HOST})
@@ -170,8 +240,12 @@ def test_what_is_no_json_and_no_page_is_said(page: Page) -> None:
 
 
 def test_nothing_comes_from_outside(page: Page) -> None:
-    texts = [page.client.get(it).text for it in ("/", "/page.js", "/page.css")]
-    assert all("http" not in it.replace("https://www.example.org/", "") for it in texts)
+    paths = ["/", "/page.css", *(f"/{it}.js" for it in SCRIPTS)]
+    texts = [page.client.get(it) for it in paths]
+    assert [it.status_code for it in texts] == [200] * len(paths)
+    assert all("http" not in it.text.replace("https://www.example.org/", "") for it in texts)
+    # what a script imports is served too
+    assert {f"/{name}.js" for it in texts for name in re.findall(r'from "\./([a-z]+)\.js"', it.text)} < set(paths)
     assert "default-src 'self'" in page.client.get("/").headers["content-security-policy"]
 
 
@@ -179,10 +253,11 @@ def test_no_response_has_a_key(tmp_path: Path) -> None:
     with closing(Page(keyed(tmp_path))) as page:
         page.device.system.install('package = "com.new"\n', key="KEY-of-new")
         page.device.app("com.one").send(ORDER)
-        paths = ["/", "/page.js", "/page.css", "/none", *(f"/api/{it}" for it in ("about", "alive", "now", "history", "entry?at=0", "entry?at=1", "device"))]
+        views = ("about", "alive", "now", "history", "entry?at=0", "entry?at=1", "test?at=1", "device")
+        paths = ["/", "/page.js", "/page.css", "/none", *(f"/api/{it}" for it in views)]
         answers = [page.client.get(it) for it in paths] + [page.client.post("/api/ask", json={**QUESTION, "from": it}) for it in ("android", "root", "com.one")]
         answers.append(page.client.post("/api/ask", json={**QUESTION, "changes": [{"change": "grant", "package": "com.one", "what": "two.SYNC"}]}))
-        assert len(answers) == 15
+        assert len(answers) == 16
         for it in answers:
             assert "KEY-of" not in it.text and "KEY-of" not in str(it.headers)
         # the call that has a key is among them
@@ -194,7 +269,7 @@ def test_an_ordered_broadcast_is_shown_turn_by_turn(shop: Page) -> None:
     shop.device.app("com.shop").send(ORDER, ordered=True, code=1, result=True)
     found = shop.get("now")["broadcasts"]
     assert [(it["to"], it["state"]) for it in found[0]["rows"]] == [("com.guard/.Check", "turn"), ("com.shop/.Ledger", "waits")]
-    assert found[0]["rows"][0]["left"] == f"60 s a turn; {words_ui.CLOCK_STANDS}"
+    assert found[0]["rows"][0]["left"] == "until 60000 ms, 60,000 ms after the last call"
     shop.device.app("com.guard").finish(1, code=2, data="looked at")
     rows = shop.get("now")["broadcasts"][0]["rows"]
     assert [(it["to"], it["state"], it["so_far"]) for it in rows] == [("com.guard/.Check", "done", ""), ("com.shop/.Ledger", "turn", "code 2, data looked at")]
@@ -203,9 +278,54 @@ def test_an_ordered_broadcast_is_shown_turn_by_turn(shop: Page) -> None:
     assert (over["broadcasts"], over["results"]) == ([], ["com.shop: result of broadcast 1: code 2, data looked at"])
 
 
-def test_the_time_that_is_left_is_never_more_than_it_can_be() -> None:
-    assert words_ui.time_left(words_ui.limit_of(("FOREGROUND",)), 3.9, False) == "at most 7 s left of 10 s"
-    assert words_ui.time_left(words_ui.limit_of(()), 60.0, False).startswith("its time is over")
+def test_deadlines_are_the_program_s(shop: Page) -> None:
+    app = shop.device.app("com.shop")
+    app.send(ORDER.with_flag("FOREGROUND"), ordered=True)
+    shop.device.advance(4000)
+    app.send(ORDER)
+    assert shop.get("now")["moment"] == "The last call was at 4000 ms; the next deadline is 6,000 ms later, at 10000 ms."
+    ordered, normal = shop.get("now")["broadcasts"]
+    assert [it["left"] for it in ordered["rows"]] == ["until 10000 ms, 6,000 ms after the last call", ""]
+    assert [it["left"] for it in normal["rows"]] == ["until 64000 ms, 60,000 ms after the last call"] * 2
+    shop.device.advance(6000)
+    later = shop.get("now")["broadcasts"][0]["rows"]
+    assert [(it["state"], it["left"]) for it in later] == [("done", ""), ("turn", "until 20000 ms, 10,000 ms after the last call")]
+    shop.device.advance(10_000)
+    assert [it["broadcast"] for it in shop.get("now")["broadcasts"]] == [2]
+    shop.device.advance(44_000)
+    assert (shop.get("now")["broadcasts"], shop.get("now")["moment"]) == ([], "The last call was at 64000 ms.")
+
+
+def test_one_delivery_has_the_one_deadline(shop: Page, monkeypatch: pytest.MonkeyPatch) -> None:
+    monkeypatch.setattr("amctl.ui.desk.MOST_COPIED", 0)
+    shop.device.app("com.shop").send(ORDER, ordered=True)
+    assert shop.get("now")["broadcasts"][0]["rows"][0]["left"] == "until 60000 ms, 60,000 ms after the last call"
+    # of several ones after very many calls only the next is known
+    shop.device.app("com.shop").send(ORDER)
+    found = shop.get("now")
+    assert [row["left"] for it in found["broadcasts"] for row in it["rows"]] == [""] * 4
+    assert found["moment"] == "The last call was at 0 ms; the next deadline is 60,000 ms later, at 60000 ms."
+
+
+def test_calls_are_made_again_at_their_moments() -> None:
+    with Device.open(EXAMPLES / "orders.toml", at=1_000_000, step=61_000) as device:
+        late(device)
+        with closing(Page(device)) as page:
+            assert [it["moment"] for it in page.get("history")["rows"]] == ["1000000 ms", "1061000 ms", "1122000 ms"]
+            # the guard was late by the clock alone
+            assert page.get("entry?at=1")["changed"] == [
+                "now: delivery 2 for com.shop/.Ledger, broadcast 1: -a org.example.ORDER, so far code 0",
+                "no more: delivery 1 for com.guard/.Check, broadcast 1: -a org.example.ORDER, so far code 0",
+            ]
+            assert page.get("entry?at=2")["reply"] == {"status": 404, "body": {"error": "no_delivery"}}
+
+
+def late(device: Device) -> None:
+    """A broadcast whose receivers are late, each after a minute: the second one answers when it's over."""
+    device.app("com.shop").send(ORDER, ordered=True)
+    device.system.tick()
+    with pytest.raises(Refusal):
+        device.app("com.shop").finish(2)
 
 
 def test_tasks_stand_with_their_front_and_top_first(page: Page) -> None:
@@ -240,7 +360,7 @@ def test_a_call_is_shown_with_its_reply_and_what_it_changed(shop: Page) -> None:
 
 
 def test_a_replay_begins_anew_before_its_session_ends(shop: Page, monkeypatch: pytest.MonkeyPatch) -> None:
-    monkeypatch.setattr("amctl.ui.desk.MOST_REPLAYED", 20)
+    monkeypatch.setattr("amctl.ui.past.MOST_REQUESTS", 20)
     for _ in range(10):
         shop.device.system.tick()
     assert [shop.get(f"entry?at={it}")["reply"]["status"] for it in range(10)] == [200] * 10
@@ -270,7 +390,32 @@ def test_history_comes_in_pages(shop: Page) -> None:
         shop.device.system.tick()
     found = [shop.get(f"history?from={it}") for it in (0, 64, 128)]
     assert [(it["total"], len(it["rows"])) for it in found] == [(70, 64), (70, 6), (70, 0)]
-    assert [found[0]["count"], words_ui.stored(1), words_ui.stored(0)] == ["70 stored calls", "1 stored call", "No stored calls."]
+    assert [found[0]["count"], words_ui.stored(1, 1), words_ui.stored(0, 0)] == ["70 stored calls", "1 stored call", "No stored calls."]
+
+
+def test_refused_calls_are_marked_and_found(shop: Page) -> None:
+    for number in (7, 8):
+        with pytest.raises(Refusal):
+            shop.device.app("com.guard").finish(number)
+    shop.device.system.tick()
+    with pytest.raises(Refusal):
+        shop.device.app("com.guard").tick()
+    found = shop.get("history")
+    assert [(it["call"], it["refused"]) for it in found["rows"]] == [("finish", "no_delivery"), ("finish", "no_delivery"), ("tick", ""), ("tick", "admin_only")]
+    assert found["names"] == {"caller": ["android", "com.guard"], "call": ["finish", "tick"]}
+    ways = {"refused=on": [0, 1, 3], "caller=com.guard&call=tick": [3], "call=tick": [2, 3], "caller=android&refused=on": [], "caller=&call=": [0, 1, 2, 3]}
+    assert {it: [row["at"] for row in shop.get(f"history?from=0&{it}")["rows"]] for it in ways} == ways
+    assert (shop.get("history?refused=on")["count"], shop.get("history?refused=on&from=2")["rows"][0]["at"]) == ("3 of 4 stored calls", 3)
+
+
+def test_a_history_that_is_too_long_says_so(shop: Page, monkeypatch: pytest.MonkeyPatch) -> None:
+    monkeypatch.setattr("amctl.ui.past.MOST_REQUESTS", 20)
+    for _ in range(30):
+        shop.device.system.tick()
+    found = shop.get("history")
+    assert (len(found["rows"]), found["total"], found["note"]) == (30, 30, words_ui.LONG_HISTORY)
+    assert (shop.get("now")["note"], shop.get("entry?at=25")["note"]) == (words_ui.LONG_HISTORY, words_ui.LONG_HISTORY)
+    assert shop.get("test?at=29")["test"].endswith(f"    # {words_ui.LONG_HISTORY}\n")
 
 
 def test_a_call_that_had_no_reply_says_why(tmp_path: Path) -> None:
@@ -278,12 +423,12 @@ def test_a_call_that_had_no_reply_says_why(tmp_path: Path) -> None:
         return Entry(at=at, desk=0, kept=kept, now=0, request={}, route="/v1/tick", uid=uid, weight=2)
 
     device = keyed(tmp_path)
-    with closing(Replay(device.file.path, None)) as replay:
-        device.close()
+    with closing(device), closing(Replay(device, None)) as replay:
         replies = [replay.play(it) for it in (entry(0, 1000, True), entry(1, 1000, False), entry(2, 10009, True))]
     assert [None if it is None else it.status for it in replies] == [200, None, None]
-    notes = [note_on(entry(at, 1000, kept), reply) for at, kept, reply in ((0, True, replies[0]), (1, False, None), (2, True, None), (60_000, True, None))]
-    assert notes == [words_ui.REPLAY_CLOCK, words_ui.NOT_KEPT, words_ui.STORED_BEFORE, words_ui.LONG_HISTORY]
+    notes = [note_on(entry(at, 1000, kept), reply) for at, kept, reply in ((0, True, replies[0]), (1, False, None), (2, True, None))]
+    assert notes == [words_ui.REPLAYED, words_ui.NOT_KEPT, words_ui.STORED_BEFORE]
+    assert note_on(entry(9, 1000, True), None, is_reached=False) == words_ui.LONG_HISTORY
 
 
 def test_copies_do_what_the_call_did(page: Page, tmp_path: Path) -> None:
@@ -299,6 +444,61 @@ def test_copies_do_what_the_call_did(page: Page, tmp_path: Path) -> None:
     ran = run_python("-m", *shlex.split(copies[1]["amctl"]), cwd=tmp_path)
     assert (ran.status, ran.out) == (0, "com.browser/.Page: a new instance (instance 1, task 1)\n")
     assert shlex.split(copies[0]["curl"])[-1] == '{"approved":true,"host":"www.photos.example","package":"com.photos"}'
+
+
+def pasted(page: Page, number: int, folder: Path, change: tuple[str, str] = ("", "")) -> str:
+    """How pytest ends on the test of all calls up to this one, as it is pasted into an empty folder."""
+    test = folder / "test_pasted.py"
+    test.write_text(page.get(f"test?at={number}")["test"].replace(*change), encoding="utf-8")
+    return run_python("-m", "pytest", "-q", "-p", "no:cacheprovider", "-p", "amctl.pytest_plugin", str(test), cwd=folder).out
+
+
+def test_calls_up_to_one_are_a_test_that_passes(page: Page, tmp_path: Path) -> None:
+    system, browser, photos = page.device.system, page.device.app("com.browser"), page.device.app("com.photos")
+    system.link("com.photos", "www.photos.example")
+    browser.start(Intent.view(LINK, extras={"a b": "it's", "n": True}).with_flag("NEW_TASK"))
+    browser.start(Intent(component="com.browser/.Settings").with_flag("NEW_TASK"))
+    system.back()
+    system.install('package = "com.new"\nactivity = [{ name = ".Main", exported = true }]\n')
+    page.device.app("com.new").start(Intent(component="com.new/.Main").with_flag("NEW_TASK"))
+    with pytest.raises(Refusal):
+        browser.start(Intent(component="com.photos/.None").with_flag("NEW_TASK"))
+    token = photos.pending_get("activity", 1, Intent(component="com.photos/.Album", flags=("NEW_TASK",)), ["MUTABLE"])
+    assert token is not None
+    photos.pending_give(token, "com.browser")
+    browser.pending_send(token, fill=Intent(extras={"from": "the browser"}))
+    photos.pending_cancel(token)
+    system.grant("com.browser", "org.example.READ")
+    photos.register(IntentFilter(("a.NEWS",), data=({"scheme": "https"},), priority=3))
+    system.force_stop("com.photos")
+    system.uninstall("com.new")
+    assert "1 passed" in pasted(page, 14, tmp_path)
+    assert "1 failed" in pasted(page, 14, tmp_path, ("'placed': 'fresh'", "'placed': 'fronted'"))
+
+
+def test_the_time_between_calls_is_in_the_test_while_a_deadline_runs(tmp_path: Path) -> None:
+    with Device.open(EXAMPLES / "orders.toml", at=1_000_000, step=61_000) as device:
+        device.system.tick()
+        late(device)
+        device.system.tick()
+        with closing(Page(device)) as page:
+            assert page.get("test?at=4")["test"].count("am_device.advance(61000)") == 2
+            assert "1 passed" in pasted(page, 4, tmp_path)
+            assert "1 failed" in pasted(page, 4, tmp_path, ("'no_delivery'", "'not_yours'"))
+            assert page.get("test?at=5") == {"error": words_ui.no_entry(5)}
+
+
+def test_a_read_that_noticed_a_deadline_is_made_again(tmp_path: Path) -> None:
+    with Device.open(EXAMPLES / "orders.toml", at=0, step=40_000) as device:
+        device.app("com.shop").send(ORDER, ordered=True)
+        device.system.tick()
+        assert device.app("com.guard").inbox() == ()
+        with closing(Page(device)) as page:
+            assert [it["call"] for it in page.get("history")["rows"]] == ["send", "tick", "inbox"]
+            found = page.get("entry?at=2")
+            assert found["reply"] == {"status": 200, "body": {"items": []}}
+            assert found["copies"]["curl"].endswith("/v1/inbox")
+            assert "1 passed" in pasted(page, 2, tmp_path)
 
 
 def test_a_refused_call_is_copied_as_a_refusal(shop: Page, tmp_path: Path) -> None:

@@ -1,5 +1,6 @@
-"""The view Ask: whom an intent would reach, with the deciding component on top and what would change the answer."""
-from collections.abc import Mapping, Sequence
+"""The view Ask: whom an intent would reach, what decides it and what would change it; the rest is counted by its reason."""
+from collections import Counter
+from collections.abc import Iterator, Mapping, Sequence
 from dataclasses import dataclass
 from typing import Any
 
@@ -7,7 +8,9 @@ from amctl import words, words_ui
 from amctl.device import ROOT, Device
 from amctl.devicefile import KINDS, SYSTEM, Kind
 from amctl.errors import BadWords
-from amctl.intents import Intent
+from amctl.intents import Extra, Intent
+from amctl.near import BEFORE_FILTERS, MOST, NO_FILTER, REACHED, nearest, reason_of
+from amctl.options import LONG, TRUTHS, WHOLE
 from amctl.results import Account
 
 # what the rules let come furthest is on top; what isn't here comes after all
@@ -15,6 +18,8 @@ ORDER = (
     "reached", "tied", "protected_action", "needs_permission", "receiver_lacks", "not_exported", "stopped_package", "manifest_implicit",
     "registered_only", "narrowed", "outranked", "implicit_service", "filters", "disabled", "other_package", "other_component",
 )
+# these passed no test of a filter
+FAR = ("action", NO_FILTER, *BEFORE_FILTERS)
 TEXTS = ("action", "data", "type", "package", "component")
 
 
@@ -56,6 +61,7 @@ class Question:
     caller: str
     kind: Kind
     intent: Intent
+    permission: str | None = None
     changes: tuple[Change, ...] = ()
 
     @classmethod
@@ -63,29 +69,73 @@ class Question:
         kind = next((it for it in KINDS if it == fields.get("kind", KINDS[0])), None)
         if kind is None:
             raise BadWords(words_ui.no_kind(str(fields.get("kind"))))
-        given = {name: str(fields[name]).strip() for name in TEXTS if fields.get(name)}
-        categories = fields.get("categories")
-        listed = tuple(str(it) for it in categories) if isinstance(categories, list) else ()
-        changes = fields.get("changes")
-        made = tuple(Change.of(it) for it in changes) if isinstance(changes, list) else ()
-        texts: dict[str, Any] = {name: value for name, value in given.items() if value}
-        return cls(str(fields.get("from") or SYSTEM), kind, Intent(categories=listed, **texts), made)
+        texts: dict[str, Any] = {name: str(fields.get(name) or "").strip() or None for name in TEXTS}
+        categories, flags = (tuple(str(it) for it in _listed(fields, name)) for name in ("categories", "flags"))
+        intent = Intent(**texts, categories=categories, flags=flags, extras=dict(_extras(_listed(fields, "extras"))))
+        permission = str(fields.get("permission") or "").strip() or None
+        return cls(str(fields.get("from") or SYSTEM), kind, intent, permission, tuple(map(Change.of, _listed(fields, "changes"))))
+
+
+def _listed(fields: Mapping[str, Any], name: str) -> Sequence[Any]:
+    found = fields.get(name)
+    return found if isinstance(found, list) else ()
+
+
+def _extras(rows: Sequence[Any]) -> Iterator[tuple[str, Extra]]:
+    """The extras of the form; a row that is left empty is none."""
+    for row in rows:
+        key, sort, value = (str(row.get(it, "")) for it in ("key", "sort", "value")) if isinstance(row, dict) else ("", "", "")
+        if not key and value:
+            raise BadWords(words_ui.no_extra_name(value))
+        if key:
+            yield key, _extra(key, sort, value)
+
+
+def _extra(key: str, sort: str, value: str) -> Extra:
+    if sort == "number":
+        if not WHOLE.fullmatch(value) or int(value) not in LONG:
+            raise BadWords(words_ui.no_number(key, value))
+        return int(value)
+    if sort == "truth":
+        if value not in TRUTHS:
+            raise BadWords(words_ui.no_truth(key, value))
+        return TRUTHS[value]
+    return value
 
 
 def answer(device: Device, question: Question) -> dict[str, Any]:
-    """The verdicts in words, the deciding one first."""
+    """The verdicts in words: what decides comes first, and the others are grouped by their reason."""
     # the root asks by itself: a system that asks for another names a package
     asks = device.root if question.caller == ROOT else device.system
     as_ = None if question.caller == ROOT else question.caller
-    found = asks.explain(question.kind, question.intent, as_=as_)
+    found = asks.explain(question.kind, question.intent, as_=as_, permission=question.permission)
     about = words.About(question.caller, question.kind, question.intent, device.file)
-    ranked = sorted(found, key=lambda it: ORDER.index(it.verdict) if it.verdict in ORDER else len(ORDER))
+    deciding = _deciding(found, about)
     reached, tied = (tuple(words.shown(it.to) for it in found if it.verdict == verdict) for verdict in ("reached", "tied"))
     return {
         "line": words_ui.verdict_line(reached, question.kind, tied) if found else words.none_of_kind(question.kind, None),
-        "accounts": [_row(it, about) for it in ranked],
+        "accounts": [_row(it, about) for it in deciding],
+        "groups": _groups([it for it in found if it not in deciding], about),
         "changes": [it.to_json() for it in question.changes],
     }
+
+
+def _deciding(found: Sequence[Account], about: words.About) -> list[Account]:
+    """What is reached and what comes nearest, what the rules let come furthest on top, and no more of either than can be looked through."""
+    near = nearest(found, about.kind, about.intent, about.file)
+    reached, missed = ([it for it in near.accounts if (it.verdict in REACHED) == is_reached] for is_reached in (True, False))
+    if near.rest:
+        # on a device of many apps what asks for something else altogether tells nothing, unless there is nothing else
+        missed = [it for it in missed if reason_of(it) not in FAR] or ([] if reached else missed)
+    return [*reached[:MOST], *sorted(missed, key=lambda it: ORDER.index(it.verdict) if it.verdict in ORDER else len(ORDER))]
+
+
+def _groups(others: Sequence[Account], about: words.About) -> list[dict[str, Any]]:
+    counts = Counter(map(reason_of, others)).most_common()
+    return [
+        {"label": words_ui.group_line(count, why, about.kind), "accounts": [_row(it, about) for it in others if reason_of(it) == why]}
+        for why, count in counts
+    ]
 
 
 def _row(found: Account, about: words.About) -> dict[str, Any]:

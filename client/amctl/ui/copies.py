@@ -1,15 +1,20 @@
-"""A stored call as a person would make it again: by curl, in a test, by a command. Keys are named, never written."""
+"""A stored call as a person would make it again: by curl, in a test, by a command; and all calls up to one in a test. Keys are never written."""
 import shlex
+from collections.abc import Iterator, Sequence
 from typing import Any
 
 from amctl import words_ui
+from amctl.device import Device
 from amctl.intents import Intent
 from amctl.results import Entry
 from amctl.transport import body_of
-from amctl.ui.past import INSTALL, Reply, public
+from amctl.ui.past import INSTALL, READS, Replay, Reply, entries, public
 
 VALUES = {"/v1/register": "number", "/v1/install": "uid", "/v1/back": "finished", "/v1/pending/get": "token"}
-WHOLE = ("/v1/start", "/v1/start_service", "/v1/send")
+WHOLE = ("/v1/start", "/v1/start_service", "/v1/send", "/v1/pending/send")
+# what Python or the client calls otherwise
+PARAMETERS = {"from": "from_", "as": "as_", "defaultOnly": "default_only"}
+IMPORTED = ("Device", "Intent", "IntentFilter", "Refusal")
 USUAL_URL = "http://127.0.0.1:8080"
 
 
@@ -18,33 +23,60 @@ def copies(entry: Entry, caller: str, reply: Reply | None, url: str | None) -> d
     asked = "" if url is None else f" --url {shlex.quote(url)}"
     return {
         "curl": as_curl(entry, url or USUAL_URL),
-        "pytest": as_pytest(entry, caller, reply),
+        "pytest": _test(f"test_call_{entry.at}", _lines(entry, caller, reply)),
         "amctl": words_ui.NO_COMMAND if command is None else command + asked,
     }
 
 
 def as_curl(entry: Entry, url: str) -> str:
     """The key is the variable KEY of whoever runs it."""
-    return f'curl -s -H "AM-Key: $KEY" {shlex.quote(url + entry.route)} -d {shlex.quote(body_of(public(entry)).decode())}'
+    body = "" if entry.route in READS else f" -d {shlex.quote(body_of(public(entry)).decode())}"
+    return f'curl -s -H "AM-Key: $KEY" {shlex.quote(url + entry.route)}{body}'
 
 
-def as_pytest(entry: Entry, caller: str, reply: Reply | None) -> str:
+def as_one_test(copy: Replay, live: Device, number: int) -> str:
+    """All calls up to this one as a test that passes as it is pasted: `copy`, which is at its beginning, makes them again."""
+    lines = list(_retold(copy, live, number))
+    return _test(f"test_calls_0_to_{number}", lines, f"@pytest.mark.am_device({str(live.file.path.resolve())!r})\n")
+
+
+def _retold(copy: Replay, live: Device, number: int) -> Iterator[str]:
+    for entry in entries(live, 0, number + 1):
+        if copy.is_full:
+            yield f"# {words_ui.LONG_HISTORY}"
+            return
+        gap = entry.now - copy.moment
+        # only a deadline asks how much time there is between two calls
+        if gap > 0 and copy.advance(0) is not None:
+            yield f"am_device.advance({gap})"
+        caller = copy.keys.name(entry.uid)
+        reply = copy.play(entry)
+        yield from _lines(entry, caller, reply) if reply is not None else (f"# {words_ui.not_retold(entry.at)}",)
+
+
+def _test(name: str, lines: Sequence[str], marker: str = "") -> str:
+    """A test of these lines, with what it imports."""
+    code = "\n".join(it for it in lines if not it.startswith("#"))
+    imported = ", ".join(it for it in IMPORTED if f"{it}(" in code or it == "Device" or (it == "Refusal" and it in code))
+    imports = ["import pytest\n"] if marker or "pytest." in code else []
+    imports += [f"from amctl import {imported}", *(["from amctl.results import to_json"] if "to_json(" in code else [])]
+    body = "\n".join(f"    {it}" for it in lines)
+    return "\n".join(imports) + f"\n\n\n{marker}def {name}(am_device: Device) -> None:\n{body}\n"
+
+
+def _lines(entry: Entry, caller: str, reply: Reply | None) -> list[str]:
+    """The call as a method, and what it has to answer."""
     who = {"android": "am_device.system", "root": "am_device.root"}.get(caller, f"am_device.app({caller!r})")
     given = {name: value for name, value in entry.request.items() if entry.route != INSTALL or name != "key"}
-    words_of_call = ", ".join(f"{name if name != 'from' else 'from_'}={_value(name, value)}" for name, value in given.items())
-    method = entry.route.removeprefix("/v1/").replace("/", "_")
-    call = f"{who}.{method}({words_of_call})"
-    imports = "from amctl import Intent, IntentFilter, Refusal\nfrom amctl.results import to_json\n\nimport pytest\n\n\n"
-    return f"{imports}def test_call_{entry.at}(am_device):\n" + "".join(f"    {it}\n" for it in _checked(call, entry.route, reply))
-
-
-def _checked(call: str, route: str, reply: Reply | None) -> list[str]:
-    if reply is not None and reply.status not in (200, 300):
-        return ["with pytest.raises(Refusal) as refused:", f"    {call}", f"assert refused.value.rule == {reply.body.get('error')!r}"]
-    if reply is not None and route in WHOLE and reply.status == 200:
-        return [f"assert to_json({call}) == {dict(reply.body)!r}"]
-    if reply is not None and route in VALUES:
-        return [f"assert {call} == {reply.body.get(VALUES[route])!r}"]
+    words_of_call = ", ".join(f"{PARAMETERS.get(name, name)}={_value(name, value)}" for name, value in given.items())
+    call = f"{who}.{entry.route.removeprefix('/v1/').replace('/', '_')}({words_of_call})"
+    if reply is not None and reply.refused:
+        return ["with pytest.raises(Refusal) as refused:", f"    {call}", f"assert refused.value.rule == {reply.refused!r}"]
+    if reply is not None and entry.route in WHOLE:
+        return [f"answer = {call}", f"assert to_json(answer) == {dict(reply.body)!r}"]
+    if reply is not None and entry.route in VALUES:
+        value = reply.body.get(VALUES[entry.route])
+        return [f"assert {call} is None" if value is None else f"assert {call} == {value!r}"]
     return [call]
 
 

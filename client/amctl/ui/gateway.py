@@ -16,10 +16,13 @@ from starlette.routing import Route
 from amctl import words_ui
 from amctl.devicefile import KINDS
 from amctl.errors import AmctlError, BadWords, Ended, NoProgram, NoServer
+from amctl.words import INTENT_FLAGS
 from amctl.ui.desk import Desk
+from amctl.ui.past import Wanted
 
 FOLDER = Path(__file__).resolve().parent
-FILES = {"/page.js": "text/javascript", "/page.css": "text/css"}
+SCRIPTS = ("page", "parts", "ask", "now", "history", "device")
+FILES = {**{f"/{it}.js": "text/javascript" for it in SCRIPTS}, "/page.css": "text/css"}
 HEADERS = {
     "Content-Security-Policy": "default-src 'self'; img-src 'self' data:; frame-ancestors 'none'; base-uri 'none'; form-action 'none'",
     "Cross-Origin-Resource-Policy": "same-origin",
@@ -65,7 +68,7 @@ def refused(request: Request, hosts: tuple[str, ...]) -> str | None:
 def _files() -> list[Route]:
     texts = {path: (FOLDER / path[1:]).read_text(encoding="utf-8") for path in FILES}
     page = Environment(loader=FileSystemLoader(FOLDER), autoescape=True).get_template("page.html")
-    shown = page.render(kinds=KINDS, words=dict(words_ui.PAGE))
+    shown = page.render(kinds=KINDS, flags=INTENT_FLAGS, words=dict(words_ui.PAGE))
 
     async def index(request: Request) -> Response:
         return HTMLResponse(shown)
@@ -92,16 +95,22 @@ def _views(desk: Desk) -> list[Route]:
 
     async def history(request: Request) -> Mapping[str, Any]:
         start = _number(request, "from")
-        return await run_in_threadpool(lambda: desk.history(start))
+        given = request.query_params
+        wanted = Wanted(given.get("caller", ""), given.get("call", ""), "refused" in given)
+        return await run_in_threadpool(lambda: desk.history(start, wanted))
 
     async def entry(request: Request) -> Mapping[str, Any]:
         number = _number(request, "at")
         return await run_in_threadpool(lambda: desk.entry(number))
 
+    async def test(request: Request) -> Mapping[str, Any]:
+        number = _number(request, "at")
+        return await run_in_threadpool(lambda: desk.test(number))
+
     async def device(request: Request) -> Mapping[str, Any]:
         return await run_in_threadpool(desk.packages)
 
-    asked = {"about": about, "alive": alive, "now": now, "history": history, "entry": entry, "device": device}
+    asked = {"about": about, "alive": alive, "now": now, "history": history, "entry": entry, "test": test, "device": device}
     return [Route(f"/api/{name}", _said(view)) for name, view in asked.items()] + [Route("/api/ask", _said(ask), methods=["POST"])]
 
 

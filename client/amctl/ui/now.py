@@ -1,16 +1,13 @@
 """The view Now: tasks, live broadcasts, services and registered receivers."""
-from collections.abc import Callable, Iterator, Mapping
-from dataclasses import dataclass
+from collections.abc import Iterator, Mapping
+from dataclasses import dataclass, field
 from typing import Any
 
 from amctl import words, words_ui
 from amctl.device import Device, Refusal
 from amctl.intents import Intent, IntentFilter
 from amctl.results import Delivery, Item, OrderedDelivery, Result
-from amctl.ui.past import Keys
-
-# how long ago a delivery was first seen, in seconds
-Seen = Callable[[int], float]
+from amctl.ui.past import Keys, Replay
 
 
 @dataclass(frozen=True)
@@ -51,32 +48,58 @@ def services(device: Device) -> list[dict[str, str]]:
     return [dict(zip(("component", "starts", "intent"), words.service(it))) for it in device.system.services()]
 
 
-def broadcasts(found: tuple[Waiting, ...], sent: Mapping[int, list[str]], seen: Seen, stands: bool) -> list[dict[str, Any]]:
+def deliveries(found: tuple[Waiting, ...]) -> set[int]:
+    """The deliveries that wait; results have no deadline."""
+    return {it.item.delivery for it in found if not isinstance(it.item, Result)}
+
+
+def deadlines(copy: Replay) -> dict[int, int]:
+    """When each live delivery is late: the copy is led from deadline to deadline, and a delivery that is gone then had this one."""
+    left = deliveries(waiting(copy.device, copy.keys))
+    found: dict[int, int] = {}
+    due = copy.advance(0)
+    while due is not None and left:
+        next_due = copy.advance(due - copy.moment)
+        gone = left - deliveries(waiting(copy.device, copy.keys))
+        found |= dict.fromkeys(gone, due)
+        left, due = left - gone, next_due
+    return found
+
+
+@dataclass(frozen=True)
+class Due:
+    """After so many calls: the earliest deadline, and that of each live delivery as far as it is known."""
+
+    calls: int
+    next: int | None = None
+    of: Mapping[int, int] = field(default_factory=dict)
+
+
+def broadcasts(found: tuple[Waiting, ...], sent: Mapping[int, list[str]], due: Mapping[int, int], moment: int) -> list[dict[str, Any]]:
     """The live broadcasts; of an ordered one, whose turn it is, and who comes before and after, as the replay tells."""
     live: dict[int, list[Waiting]] = {}
     for it in found:
         if not isinstance(it.item, Result):
             live.setdefault(it.item.broadcast, []).append(it)
-    return [_broadcast(number, live[number], sent.get(number, []), seen, stands) for number in sorted(live)]
+    return [_broadcast(number, live[number], sent.get(number, []), due, moment) for number in sorted(live)]
 
 
-def _broadcast(number: int, found: list[Waiting], admitted: list[str], seen: Seen, stands: bool) -> dict[str, Any]:
+def _broadcast(number: int, found: list[Waiting], admitted: list[str], due: Mapping[int, int], moment: int) -> dict[str, Any]:
     first = found[0].item
     assert not isinstance(first, Result)
     is_ordered = isinstance(first, OrderedDelivery)
-    rows = [_turn(it, seen, stands) for it in found]
+    rows = [_turn(it, due, moment) for it in found]
     if is_ordered:
         rows = [*_others(admitted, rows[0]["to"], before=True), *rows, *_others(admitted, rows[0]["to"], before=False)]
     return {"broadcast": number, "ordered": is_ordered, "intent": words.intent(first.intent), "rows": rows}
 
 
-def _turn(found: Waiting, seen: Seen, stands: bool) -> dict[str, str]:
+def _turn(found: Waiting, due: Mapping[int, int], moment: int) -> dict[str, str]:
     item = found.item
     assert isinstance(item, (Delivery, OrderedDelivery))
-    limit = words_ui.limit_of(item.intent.flags)
     is_ordered = isinstance(item, OrderedDelivery)
     so_far = words.item(item)[2].rpartition(", so far ")[2] if is_ordered else ""
-    left = words_ui.time_left(limit, seen(item.delivery), stands)
+    left = words_ui.deadline(due[item.delivery], moment) if item.delivery in due else ""
     return {"to": words.shown(item.to), "state": "turn" if is_ordered else "gets", "left": left, "so_far": so_far}
 
 
