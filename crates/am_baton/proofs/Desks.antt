@@ -2,7 +2,7 @@
 use Rattle.std.proofs.Common.{◌≡◌, ℕ, zero, suc, ◌<◌, ◌≤◌, ◌∙◌, List, [], ◌∷◌, ◌++◌, length, map, slice_index_or, refl, sym, ap, subst, inl, inr, ⊎_elim, append_assoc, arith}
 use Rattle.std.specs.Prelude.{All, ◌⊎◌, Result, Ok, Err, IfOk, OnErr}
 use Rattle.std.proofs.lemmas.List.{map-append}
-use Rattle.std.proofs.lemmas.List.Elements.{All-push, All-weaker, All-map}
+use Rattle.std.proofs.lemmas.List.Elements.{All-nil, All-push, All-weaker, All-map}
 use Rattle.atomic_table.specs.Seated.{TableId}
 use Rattle.am_types.specs.declared.history.Entry.{Entry}
 use Rattle.am_types.specs.declared.history.Shown.{Shown}
@@ -10,8 +10,8 @@ use Rattle.am_history.specs.Desks.{Origin, Sharing, DeskView, IsSameDesk, SeesOt
 use Rattle.am_history.specs.Steps.{Call}
 use Rattle.am_machine.specs.Managed.{Managed}
 use Rattle.am_baton.specs.declared.baton.Baton.{Baton}
-use Rattle.am_baton.specs.Shared.{Start, Mark, Known, desk_of, HasNumber, StandsFor, IsNumbered, IsFront, Taken, AreNew, AreAll, IsClosed}
-use Rattle.am_baton.proofs.Fronts.{alone}
+use Rattle.am_baton.specs.Shared.{Start, Mark, Known, desk_of, HasNumber, StandsFor, IsNumbered, IsFront, Put, Taken, AreNew, AreAll, IsClosed, holding, idle, with_seen}
+use Rattle.am_baton.proofs.Fronts.{alone, front_later}
 
 -- the history that a pass found, as the desk's caller sees it
 pub sees_found : {K : Type 0} (t : TableId) (v : Known) (b : Baton K) (w : Known) → Taken v b w
@@ -21,6 +21,47 @@ sees_found t v b w taken = record {
   others = taken.front.own;
   alone = λ one. alone v.mark b.manager.value.history one taken.made taken.numbered taken.front;
 }
+
+-- a pass that waits knows what it knew, and may have seen more
+pub record HasWaited (v u : Known) : Type 0 where
+  pub idle : u ≡ idle v.makes (with_seen v.mark u.mark.seen) []
+  pub front : (history : List Entry) → IsFront u.mark history → IsFront v.mark history
+
+-- it does once it took the manager and put it back unchanged
+pub waits_more : {K : Type 0} (v u : Known) (b : Baton K) (t n : Known) → HasWaited v u → Taken u b t → Put t b n
+    → HasWaited v n
+waits_more v u b t n waited taken put =
+    let h = b.manager.value.history in
+    let now : n ≡ idle v.makes (with_seen v.mark h) [] =
+    put
+    ∙ (ap (λ (k : Known). idle k.makes (with_seen k.mark h) k.ended) taken.view
+    ∙ ap (λ (k : Known). idle k.makes (with_seen k.mark h) k.ended) waited.idle) in
+    let seen : n.mark.seen ≡ h = ap (λ (k : Known). k.mark.seen) now in
+    record {
+      idle = now ∙ ap (λ (s : List Entry). idle v.makes (with_seen v.mark s) []) (sym seen);
+      front = λ history begins. front_later v.mark h history (waited.front h taken.front)
+          (subst (λ (m : Mark). IsFront m history) (ap (λ (k : Known). k.mark) now) begins);
+    }
+
+-- what it takes then is what it would have taken at once
+pub taken_later : {K : Type 0} (v u : Known) (b : Baton K) (w : Known) → v.ended ≡ [] → HasWaited v u → Taken u b w
+    → Taken v b w
+taken_later v u b w none waited taken =
+    let h = b.manager.value.history in
+    let is = waited.idle in
+    let P : Mark → Type 0 = λ (mark : Mark). (mark.start ≡ v.mark.start) × IsFront mark h in
+    record {
+      origin = taken.origin ∙ ap (λ (k : Known). k.mark.start.origin) is;
+      desks = taken.desks ∙ ap (λ (k : Known). k.mark.start.desks) is;
+      front = waited.front h taken.front;
+      others = subst (All P) (sym none) (All-nil P);
+      numbered = subst (λ (s : Start). IsNumbered s.desks s.handed h) (ap (λ (k : Known). k.mark.start) is)
+          taken.numbered;
+      made = subst (λ (m : Mark). m.number < m.start.desks) (ap (λ (k : Known). k.mark) is) taken.made;
+      view = taken.view
+          ∙ (ap (λ (k : Known). holding k.makes (with_seen k.mark h) k.ended) is
+          ∙ ap (holding v.makes (with_seen v.mark h)) (sym none));
+    }
 
 -- what one of the desks may say of the manager that was taken last
 closed : {K : Type 0} (t : TableId) (v : Known) (b : Baton K) (w : Known) → Taken v b w → (mark : Mark) → mark.start

@@ -96,6 +96,15 @@ pub front_whole : (mark : Mark) (history : List Entry) → Extends mark.start.ha
     → IsFront (with_seen mark history) history
 front_whole mark history begins = record { begins = begins; grows = extends_self history; own = refl }
 
+-- what begins with more than the desk has seen begins with what it has seen
+pub front_later : (mark : Mark) (now history : List Entry) → IsFront mark now → IsFront (with_seen mark now) history
+    → IsFront mark history
+front_later mark now history first next = record {
+  begins = first.begins;
+  grows = extends_on mark.seen now history first.grows next.grows;
+  own = next.own ∙ first.own;
+}
+
 -- whose desk is the only one sees the whole history
 all_back : (P : Entry → Type 0) (xs ys : List Entry) → All P (xs ++ ys) → All P ys
 all_back P [] ys all = all

@@ -1,7 +1,7 @@
 //! A desk that shares its manager with others.
-ghost use Rattle.std.specs.Prelude.{◌≡◌, true, []};
+ghost use Rattle.std.specs.Prelude.{◌≡◌, ◌≤◌, true, [], length};
 ghost use Rattle.crossbeam_queue.specs.Passes.{view, IsPassOf};
-ghost use Rattle.am_baton.specs.Shared.{AddsOne, Put, Taken, holding};
+ghost use Rattle.am_baton.specs.Shared.{AddsOne, Put, Taken, holding, idle};
 
 use crate::baton::{Baton, Stand};
 use crate::rule::{Puts, Takes};
@@ -11,7 +11,7 @@ use am_keeper::Keeper;
 use am_types::{NoMemory, Shown};
 use crossbeam_queue::Pass;
 use std::marker::Model;
-use std::sync::{Arc, Wait};
+use std::sync::{Arc, MutexGuard, Wait};
 use std::thread;
 
 /// One of the desks that share a manager. Its calls may wait for those of the others.
@@ -76,13 +76,43 @@ fn give<R: Wait, K: Keeper>(
     }
 }
 
+// Waits until it is this desk's turn and the manager has so many entries, and takes it. The turn lasts as long as the
+// guard.
+fn take_filled<'s, R: Wait, K: Keeper>(
+    rt: &R,
+    stand: &'s Stand<K>,
+    pass: &mut Pass<Baton<K>, Ticket>,
+    least: u64,
+) -> (MutexGuard<'s, ()>, Baton<K>)
+    requires pass { IsPassOf stand.now.queue pass.old }
+    requires idle { view pass.old ≡ idle (view pass.old).makes (view pass.old).mark [] }
+    ensures pass { IsPassOf stand.now.queue pass.new × (pass.new.table_id ≡ pass.old.table_id) }
+    ensures taken { Taken (view pass.old) result.1 (view pass.new) }
+    ensures filled { least ≤ length result.1.manager.value.history }
+{
+    for _ in rt.forever() {
+        let turn = stand.gate.lock(rt);
+        let baton = take(rt, stand, pass);
+        if baton.manager.length() >= least {
+            return (turn, baton);
+        }
+        give(rt, stand, pass, baton);
+        drop(turn);
+        thread::yield_now();
+    }
+    unreachable!()
+}
+
 impl<R: Wait, K: Keeper> Desk for SharedDesk<R, K> {
+    ghost use Rattle.std.specs.Prelude.{true};
+
     ghost view = { λ d. d };
+
+    ghost waits = { true };
 
     fn call(&mut self, asked: DeskCall<'_>) -> Result<Shown, NoMemory> {
         let stand: &Stand<K> = &self.stand;
-        let _turn = stand.gate.lock(&self.rt);
-        let mut baton = take(&self.rt, stand, &mut self.pass);
+        let (_turn, mut baton) = take_filled(&self.rt, stand, &mut self.pass, asked.least);
         let shown = baton.manager.step(
             self.number,
             asked.key,

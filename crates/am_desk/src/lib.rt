@@ -1,21 +1,22 @@
 //! What a desk is, on which the calls of a connection are made.
 #![tactic(auto)]
 
-ghost use Rattle.std.specs.Prelude.{◌≡◌, IfOk, OnErr, IsTrue};
+ghost use Rattle.std.specs.Prelude.{◌≡◌, ◌≤◌, Bool, IfOk, OnErr, IsTrue};
 ghost use Rattle.am_history.specs.Desks.{DeskView, IsSameDesk, SeesOthers, Shows, start_of};
 ghost use Rattle.am_history.specs.History.{IsLegal};
 ghost use Rattle.am_history.specs.Steps.{is_formed};
 
 use am_types::{NoMemory, Request, Shown, Text};
 
-/// A call as it is made on a desk: its key, its moment in milliseconds, the length of its request's body in bytes, and
-/// what it asks.
+/// A call as it is made on a desk: its key, its moment in milliseconds, the length of its request's body in bytes, what
+/// it asks, and the least place that its answer may have.
 #[derive(Drop)]
 pub struct DeskCall<'k> {
     pub key: &'k Text,
     pub now: u64,
     pub weight: u32,
     pub request: Request,
+    pub least: u64,
 }
 
 /// Where a connection's calls are made. The manager behind it may be shared with other desks.
@@ -24,8 +25,12 @@ pub trait Desk {
     /// the history that it has seen.
     ghost view: { Self → DeskView };
 
-    /// Makes one call. Its request has the form that a body is read as. After `NoMemory` the call
-    /// itself changed nothing, but the desk may have seen more calls of others.
+    /// Whether a call waits until the history has as many entries as the least place that it asks for.
+    ghost waits: { Bool };
+
+    /// Makes one call. Its request has the form that a body is read as. If the desk waits, the place of its answer
+    /// isn't below the least one. After `NoMemory` the call itself changed nothing, but the desk may have seen more
+    /// calls of others.
     fn call(&mut self, asked: DeskCall<'_>) -> Result<Shown, NoMemory>
         requires formed { IsTrue (is_formed asked.request) }
         ensures shown { IfOk result (λ shown. Shows (view self.old) (view self.new)
@@ -37,6 +42,7 @@ pub trait Desk {
               request = asked.entry.request;
             })
             shown) }
+        ensures least { IfOk result (λ shown. IsTrue waits → asked.entry.least ≤ shown.at) }
         ensures refused { OnErr result (SeesOthers (view self.old) (view self.new).seen) }
         ensures legal { IsLegal (start_of (view self.new)) (view self.new).seen }
         ensures same { IsSameDesk (view self.old) (view self.new) };

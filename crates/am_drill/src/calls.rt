@@ -84,6 +84,7 @@ fn make<D: Desk>(
         now,
         weight,
         request,
+        least: 0,
     })?;
     let status = reply_status(&shown.reply);
     drop(shown);

@@ -350,12 +350,12 @@ pub all_more : {X : Type 0} (P : X → Type 0) (xs : List X) (x : X) → AllByRe
 all_more P [] x all one = (one, tt)
 all_more P (y ∷ ys) x all one = (all.0, all_more P ys x all.1 one)
 
-floor_more : (floor : ℕ) (es : List Exchange) (e : Exchange) → floor_of floor (es ++ e ∷ [])
+pub floor_more : (floor : ℕ) (es : List Exchange) (e : Exchange) → floor_of floor (es ++ e ∷ [])
     ≡ floor_after (floor_of floor es) e.point
 floor_more floor [] e = refl
 floor_more floor (first ∷ others) e = floor_more (floor_after floor first.point) others e
 
-in_order_more : (floor : ℕ) (es : List Exchange) (e : Exchange) → AreInOrder floor es
+pub in_order_more : (floor : ℕ) (es : List Exchange) (e : Exchange) → AreInOrder floor es
     → IsAbove (floor_of floor es) e.point → AreInOrder floor (es ++ e ∷ [])
 in_order_more floor [] e order above = (above, tt)
 in_order_more floor (first ∷ others) e order above =

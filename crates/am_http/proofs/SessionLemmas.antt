@@ -1,5 +1,5 @@
 -- How a connection starts, goes on and ends.
-use Rattle.std.proofs.Common.{◌≡◌, ℕ, suc, ◌+◌, ◌-◌, ◌<◌, ◌≤◌, true, false, List, [], ◌∷◌, ◌++◌, length, take, drop, Option, Some, None, refl, sym, ap, ◌∙◌, subst, inl, inr, arith, length-append, append-nil}
+use Rattle.std.proofs.Common.{◌≡◌, ℕ, suc, ◌+◌, ◌-◌, ◌<◌, ◌≤◌, Bool, true, false, IsTrue, List, [], ◌∷◌, ◌++◌, length, take, drop, Option, Some, None, refl, sym, ap, ◌∙◌, subst, inl, inr, arith, length-append, append-nil}
 use Rattle.std.specs.Prelude.{IfSome}
 use Rattle.std.specs.Option.{option_map, option_to_list}
 use Rattle.std.specs.Io.KnownBytes.{Appends, Keeps, prepend_known}
@@ -11,17 +11,18 @@ use Rattle.am_outside.specs.Clock.{IsTold}
 use Rattle.am_history.specs.Desks.{DeskView, Origin, opening_of, IsSameDesk}
 use Rattle.am_history.specs.History.{IsLegal}
 use Rattle.am_http.specs.declared.end.End.{End}
+use Rattle.am_http.specs.declared.end.Served.{Served}
 use Rattle.am_http.specs.declared.end.End.TheVariants.{Input, Close, Refused, Cut, Limit, Idle, ReadFault, WriteFault}
 use Rattle.am_frames.specs.Head.{Frame, whole}
 use Rattle.am_frames.specs.Framing.{IsFraming}
 use Rattle.am_http.specs.Frames.{Splits, Leaves, Drops}
-use Rattle.am_http.specs.Exchanges.{Exchange, AreAnswered, frames_of, bytes_of, moments_of}
+use Rattle.am_http.specs.Exchanges.{Exchange, Point, AreAnswered, AreInOrder, IsAbove, Raises, RaisesAlong, floor_after, floor_of, frames_of, bytes_of, moments_of}
 use Rattle.am_http.specs.Links.{Link, Midway, Server, Moments, Gives, rest_of, GoesOn, IsSameLink}
 use Rattle.am_http.specs.Sessions.{most_held, most_taken, GivesAtMost, MayGoOn, defect_text, VisitEnds, Writes, Visit, Going, Serves, IsLast, Replies, Stops}
 use Rattle.am_http.specs.Sending.{StopsInside}
 use Rattle.am_frames.proofs.FramingLemmas.{whole_fits}
 use Rattle.am_http.proofs.SendLemmas.{appends_trans, appends_none, appends_self, inside_more}
-use Rattle.am_http.proofs.ExchangeLemmas.{stands, one_more, none_yet, all_more}
+use Rattle.am_http.proofs.ExchangeLemmas.{stands, one_more, none_yet, all_more, floor_more, in_order_more}
 
 -- one more frame of an input
 splits_more : (input : List ℕ) (fs : List Frame) (f : Frame) (rest : List ℕ)
@@ -52,10 +53,10 @@ bytes_more es e =
     flat_map-append (λ (x : Exchange). x.bytes) es (e ∷ []) ∙ ap (λ bs. bytes_of es ++ bs) (append-nil e.bytes)
 
 -- a connection that begins, with an empty window
-pub going_none : (first : Link) (w : List ℕ) → Leaves first.source.left []
-    (rest_of (record { link = first; window = w }))
-    → Going first (record { link = first; window = w }) 0
-going_none first w leaves =
+abbrev pub going_none : (first : Link) (w : List ℕ) (least : ℕ) → Leaves first.source.left []
+    (rest_of (record { link = first; window = w; least = least }))
+    → Going first (record { link = first; window = w; least = least }) 0
+going_none first w least leaves =
     record {
       exchanges = [];
       answers = none_yet first.server.desk;
@@ -122,73 +123,105 @@ more_answers first mid new es e same so_far next =
     one_more first.server.desk mid.link.server.desk new.desk es e same so_far
     (stands mid.link.server.desk new.desk e next.answer)
 
+-- the places of the exchanges so far, and of one more
+raised_more : (waits : Bool) (least mid new : ℕ) (es : List Exchange) (e : Exchange) → RaisesAlong waits least mid es
+    → Raises waits mid new e.point → RaisesAlong waits least new (es ++ e ∷ [])
+raised_more waits least mid new es e so_far next = (
+  λ it_waits. in_order_more least es e (so_far.0 it_waits) (subst (λ (n : ℕ). IsAbove n e.point) so_far.1
+      (next.0 it_waits)),
+  next.1 ∙ ap (λ (n : ℕ). floor_after n e.point) so_far.1 ∙ sym (floor_more least es e),
+)
+
+-- where no call was made, they stay
+raised_still : (waits : Bool) (least mid new : ℕ) (es : List Exchange) → RaisesAlong waits least mid es → new ≡ mid
+    → RaisesAlong waits least new es
+raised_still waits least mid new es so_far same = (so_far.0, same ∙ so_far.1)
+
 -- a connection that goes on
-pub going_more : (first : Link) (mid new : Midway) (count : ℕ) → IsSameDesk first.server.desk mid.link.server.desk
-    → Going first mid count → Replies false mid new → Going first new (count + 1)
-going_more first mid new count same so_far next =
-    record {
-      exchanges = so_far.exchanges ++ next.exchange ∷ [];
-      answers = more_answers first mid new.link.server so_far.exchanges next.exchange same so_far.answers next.served;
-      moments = more_moments first.server.clock mid.link.server.clock new.link.server.clock so_far.exchanges
-          next.exchange
-          so_far.moments next.served.moment;
-      frames = more_frames first.source.left (rest_of mid) (rest_of new) so_far.exchanges next.exchange so_far.frames
-          next.frame;
-      stays = all_more (λ (e : Exchange). e.frame.close ≡ false) so_far.exchanges next.exchange so_far.stays
-          next.closes;
-      output = more_output first.sink.taken mid.link.sink.taken new.link.sink.taken so_far.exchanges next.exchange
-          so_far.output next.output;
-      counted = more_count so_far.exchanges next.exchange count so_far.counted;
-    }
+pub going_more : (waits : Bool) (least : ℕ) (first : Link) (mid new : Midway) (count : ℕ)
+    → IsSameDesk first.server.desk mid.link.server.desk
+    → (so_far : Going first mid count) → RaisesAlong waits least mid.least so_far.exchanges
+    → Replies waits false mid new
+    → (going : Going first new (count + 1)) × RaisesAlong waits least new.least going.exchanges
+going_more waits least first mid new count same so_far raised next = (
+  record {
+    exchanges = so_far.exchanges ++ next.exchange ∷ [];
+    answers = more_answers first mid new.link.server so_far.exchanges next.exchange same so_far.answers next.served;
+    moments = more_moments first.server.clock mid.link.server.clock new.link.server.clock so_far.exchanges
+        next.exchange
+        so_far.moments next.served.moment;
+    frames = more_frames first.source.left (rest_of mid) (rest_of new) so_far.exchanges next.exchange so_far.frames
+        next.frame;
+    stays = all_more (λ (e : Exchange). e.frame.close ≡ false) so_far.exchanges next.exchange so_far.stays
+        next.closes;
+    output = more_output first.sink.taken mid.link.sink.taken new.link.sink.taken so_far.exchanges next.exchange
+        so_far.output next.output;
+    counted = more_count so_far.exchanges next.exchange count so_far.counted;
+  },
+  raised_more waits least mid.least new.least so_far.exchanges next.exchange raised next.raises,
+)
+
+-- a visit, along whose exchanges places go so
+abbrev pub VisitAlong : Bool → ℕ → ℕ → (limit : ℕ) (old new : Link) (served : Served) → Type 0
+VisitAlong waits least next limit old new served =
+    (visit : Visit limit old new served) × RaisesAlong waits least next visit.exchanges
 
 -- a connection that the peer closes
-pub session_close : (limit : ℕ) (first : Link) (mid : Midway) (link : Link) (window : List ℕ) (count : ℕ)
+pub session_close : (waits : Bool) (least next_least limit : ℕ) (first : Link) (mid : Midway) (link : Link)
+    (window : List ℕ) (count : ℕ)
     → count < limit
     → GivesAtMost (most_taken limit) first.source.left link.source.left
     → IsSameDesk first.server.desk mid.link.server.desk
-    → Going first mid count → Replies true mid (record { link = link; window = window })
-    → Visit limit first link (record { end = Close; answered = count + 1 })
-session_close limit first mid link window count below gives same so_far next =
-    let new : Midway = record { link = link; window = window } in
+    → (so_far : Going first mid count) → RaisesAlong waits least mid.least so_far.exchanges
+    → Replies waits true mid (record { link = link; window = window; least = next_least })
+    → VisitAlong waits least next_least limit first link (record { end = Close; answered = count + 1 })
+session_close waits least next_least limit first mid link window count below gives same so_far raised next =
+    let new : Midway = record { link = link; window = window; least = next_least } in
     let es = so_far.exchanges in
-    let e = next.exchange in
-    record {
-      exchanges = es ++ e ∷ [];
-      rest = rest_of new;
-      last = [];
-      answers = more_answers first mid new.link.server es e same so_far.answers next.served;
-      moments = more_moments first.server.clock mid.link.server.clock new.link.server.clock es e so_far.moments
-          next.served.moment;
-      frames = more_frames first.source.left (rest_of mid) (rest_of new) es e so_far.frames next.frame;
-      most = omega (arith, below, more_count es e count so_far.counted);
-      taken = gives;
-      end = (sym (more_count es e count so_far.counted), (es, e, refl, so_far.stays, next.closes), refl);
-      output = subst (λ bs. Appends first.sink.taken new.link.sink.taken bs)
-          (sym (append-nil (bytes_of (es ++ e ∷ []))))
-          (more_output first.sink.taken mid.link.sink.taken new.link.sink.taken es e so_far.output next.output);
-    }
+    let e = next.exchange in (
+      record {
+        exchanges = es ++ e ∷ [];
+        rest = rest_of new;
+        last = [];
+        answers = more_answers first mid new.link.server es e same so_far.answers next.served;
+        moments = more_moments first.server.clock mid.link.server.clock new.link.server.clock es e so_far.moments
+            next.served.moment;
+        frames = more_frames first.source.left (rest_of mid) (rest_of new) es e so_far.frames next.frame;
+        most = omega (arith, below, more_count es e count so_far.counted);
+        taken = gives;
+        end = (sym (more_count es e count so_far.counted), (es, e, refl, so_far.stays, next.closes), refl);
+        output = subst (λ bs. Appends first.sink.taken new.link.sink.taken bs)
+            (sym (append-nil (bytes_of (es ++ e ∷ []))))
+            (more_output first.sink.taken mid.link.sink.taken new.link.sink.taken es e so_far.output next.output);
+      },
+      raised_more waits least mid.least next_least es e raised next.raises,
+    )
 
 -- a connection that has had as many frames as it may
-pub session_limit : (limit : ℕ) (first link : Link) (window : List ℕ) (count : ℕ) → count ≡ limit
+pub session_limit : (waits : Bool) (least next_least limit : ℕ) (first link : Link) (window : List ℕ) (count : ℕ)
+    → count ≡ limit
     → GivesAtMost (most_taken limit) first.source.left link.source.left
-    → Going first (record { link = link; window = window }) count
-    → Visit limit first link (record { end = Limit; answered = count })
-session_limit limit first link window count all gives so_far =
-    let mid : Midway = record { link = link; window = window } in
-    record {
-      exchanges = so_far.exchanges;
-      rest = rest_of mid;
-      last = [];
-      answers = so_far.answers;
-      moments = so_far.moments;
-      frames = so_far.frames;
-      most = omega (arith, so_far.counted, all);
-      taken = gives;
-      end = (sym so_far.counted, so_far.stays, so_far.counted ∙ all, refl);
-      output = subst (λ bs. Appends first.sink.taken mid.link.sink.taken bs)
-          (sym (append-nil (bytes_of so_far.exchanges)))
-          so_far.output;
-    }
+    → (so_far : Going first (record { link = link; window = window; least = next_least }) count)
+    → RaisesAlong waits least next_least so_far.exchanges
+    → VisitAlong waits least next_least limit first link (record { end = Limit; answered = count })
+session_limit waits least next_least limit first link window count all gives so_far raised =
+    let mid : Midway = record { link = link; window = window; least = next_least } in (
+      record {
+        exchanges = so_far.exchanges;
+        rest = rest_of mid;
+        last = [];
+        answers = so_far.answers;
+        moments = so_far.moments;
+        frames = so_far.frames;
+        most = omega (arith, so_far.counted, all);
+        taken = gives;
+        end = (sym so_far.counted, so_far.stays, so_far.counted ∙ all, refl);
+        output = subst (λ bs. Appends first.sink.taken mid.link.sink.taken bs)
+            (sym (append-nil (bytes_of so_far.exchanges)))
+            so_far.output;
+      },
+      raised,
+    )
 
 -- the told rest behind a frame
 rest_after : Option (List ℕ) → Frame → Option (List ℕ)
@@ -217,31 +250,34 @@ same_answers first mid new es same so_far =
     })
 
 -- a connection that ends with what was written last, after nothing more was asked of the desk
-ended : {Takes : Option (List ℕ) → Option (List ℕ) → Type 0} (limit : ℕ) (first : Link) (mid new : Midway) (count : ℕ)
+ended : {Takes : Option (List ℕ) → Option (List ℕ) → Type 0} (waits : Bool) (least limit : ℕ) (first : Link)
+    (mid new : Midway) (count : ℕ)
     (end : End) (last : List ℕ) → count < limit → GivesAtMost (most_taken limit) first.source.left new.link.source.left
-    → (so_far : Going first mid count) → IsLast mid new Takes
+    → (so_far : Going first mid count) → RaisesAlong waits least mid.least so_far.exchanges → IsLast mid new Takes
     → (Takes mid.link.sink.taken new.link.sink.taken
     → Writes (record { end = end; answered = count }) first.sink.taken new.link.sink.taken so_far.exchanges last)
     → (count ≡ length so_far.exchanges → MayGoOn limit so_far.exchanges → VisitEnds limit end count so_far.exchanges
     (record { rest = rest_of mid; left = new.link.source.left; last = last }))
-    → Visit limit first new.link (record { end = end; answered = count })
-ended limit first mid new count end last below gives so_far stop writes ends =
+    → VisitAlong waits least new.least limit first new.link (record { end = end; answered = count })
+ended waits least limit first mid new count end last below gives so_far raised stop writes ends =
     let es = so_far.exchanges in
-    let asked = stop.unasked in
-    record {
-      exchanges = es;
-      rest = rest_of mid;
-      last = last;
-      answers = same_answers first.server.desk mid.link.server.desk new.link.server.desk es asked.seen so_far.answers;
-      moments = unasked_moments first.server.clock mid.link.server.clock new.link.server.clock (moments_of es)
-          so_far.moments asked.clock;
-      frames = so_far.frames;
-      most = omega (arith, below, so_far.counted);
-      taken = gives;
-      end = ends (sym so_far.counted)
-          (record { stays = so_far.stays; below = omega (arith, so_far.counted, below) });
-      output = writes stop.output;
-    }
+    let asked = stop.unasked in (
+      record {
+        exchanges = es;
+        rest = rest_of mid;
+        last = last;
+        answers = same_answers first.server.desk mid.link.server.desk new.link.server.desk es asked.seen so_far.answers;
+        moments = unasked_moments first.server.clock mid.link.server.clock new.link.server.clock (moments_of es)
+            so_far.moments asked.clock;
+        frames = so_far.frames;
+        most = omega (arith, below, so_far.counted);
+        taken = gives;
+        end = ends (sym so_far.counted)
+            (record { stays = so_far.stays; below = omega (arith, so_far.counted, below) });
+        output = writes stop.output;
+      },
+      raised_still waits least mid.least new.least es raised stop.least,
+    )
 
 -- what the source gave behind a frame that still stands in the window
 ahead : (rest : Option (List ℕ)) (w : List ℕ) (left : Option (List ℕ)) (f : Frame) → Keeps rest (prepend_known w left)
@@ -288,74 +324,81 @@ kept first mid new count so_far keeps =
     (appends_none mid.link.sink.taken new.link.sink.taken keeps)
 
 -- a connection that ends before a further frame is answered
-stopped : (limit : ℕ) (first : Link) (mid new : Midway) (count : ℕ) (end : End) → count < limit
+stopped : (waits : Bool) (least limit : ℕ) (first : Link) (mid new : Midway) (count : ℕ) (end : End) → count < limit
     → GivesAtMost (most_taken limit) first.source.left new.link.source.left
     → IsSameDesk first.server.desk mid.link.server.desk
-    → Going first mid count → Stops end mid new → Visit limit first new.link (record { end = end; answered = count })
-stopped limit first mid new count Input below gives same so_far stop =
-    ended limit first mid new count Input [] below gives so_far stop.1 (kept first mid new count so_far)
+    → (so_far : Going first mid count) → RaisesAlong waits least mid.least so_far.exchanges
+    → Stops waits end mid new
+    → VisitAlong waits least new.least limit first new.link (record { end = end; answered = count })
+stopped waits least limit first mid new count Input below gives same so_far raised stop =
+    ended waits least limit first mid new count Input [] below gives so_far raised stop.1 (kept first mid new count so_far)
     (λ counted more. (counted, more, stop.0, refl))
-stopped limit first mid new count Close below gives same so_far stop = absurd stop
-stopped limit first mid new count Refused below gives same so_far stop =
-    ended limit first mid new count Refused (defect_text stop.0) below gives so_far stop.2
+stopped waits least limit first mid new count Close below gives same so_far raised stop = absurd stop
+stopped waits least limit first mid new count Refused below gives same so_far raised stop =
+    ended waits least limit first mid new count Refused (defect_text stop.0) below gives so_far raised stop.2
     (appends_trans first.sink.taken mid.link.sink.taken new.link.sink.taken (bytes_of so_far.exchanges)
     (defect_text stop.0) so_far.output)
     (λ counted more. (counted, (more, (stop.0, stop.1, refl), stop.3)))
-stopped limit first mid new count Cut below gives same so_far stop =
-    ended limit first mid new count Cut [] below gives so_far stop.1 (kept first mid new count so_far)
+stopped waits least limit first mid new count Cut below gives same so_far raised stop =
+    ended waits least limit first mid new count Cut [] below gives so_far raised stop.1 (kept first mid new count so_far)
     (λ counted more. (counted, more, stop.0, refl))
-stopped limit first mid new count Limit below gives same so_far stop = absurd stop
-stopped limit first mid new count Idle below gives same so_far stop =
-    ended limit first mid new count Idle [] below gives so_far stop.1 (kept first mid new count so_far)
+stopped waits least limit first mid new count Limit below gives same so_far raised stop = absurd stop
+stopped waits least limit first mid new count Idle below gives same so_far raised stop =
+    ended waits least limit first mid new count Idle [] below gives so_far raised stop.1 (kept first mid new count so_far)
     (λ counted more. (counted, more, stop.0, refl))
-stopped limit first mid new count ReadFault below gives same so_far stop =
-    ended limit first mid new count ReadFault [] below gives so_far stop.2 (kept first mid new count so_far)
+stopped waits least limit first mid new count ReadFault below gives same so_far raised stop =
+    ended waits least limit first mid new count ReadFault [] below gives so_far raised stop.2 (kept first mid new count so_far)
     (λ counted more. (counted, more, (new.window, stop.0, stop.1), refl))
-stopped limit first mid new count WriteFault below gives same so_far (inl next) =
+stopped waits least limit first mid new count WriteFault below gives same so_far raised (inl next) =
     let es = so_far.exchanges in
     let e = next.exchange in
-    let more = more_count es e count so_far.counted in
-    record {
-      exchanges = es ++ e ∷ [];
-      rest = rest_after (rest_of mid) e.frame;
-      last = [];
-      answers = more_answers first mid new.link.server es e same so_far.answers next.served;
-      moments = more_moments first.server.clock mid.link.server.clock new.link.server.clock es e so_far.moments
-          next.served.moment;
-      frames = more_frames first.source.left (rest_of mid) (rest_after (rest_of mid) e.frame) es e so_far.frames
-          (drops_after (rest_of mid) e.frame next.frame);
-      most = omega (arith, below, more);
-      taken = gives;
-      end = inl (
-        sym more,
-        (
-          es,
-          e,
-          refl,
-          so_far.stays,
-          ahead (rest_of mid) new.window new.link.source.left e.frame next.kept next.here next.fits,
-          refl,
-        ),
-      );
-      output = inside_response first.sink.taken new.link.sink.taken es e count so_far.counted
-          (inside_more first.sink.taken mid.link.sink.taken new.link.sink.taken (bytes_of es) e.bytes so_far.output
-          next.output);
-    }
-stopped limit first mid new count WriteFault below gives same so_far (inr stop) =
-    ended limit first mid new count WriteFault (defect_text stop.0) below gives so_far stop.2
+    let more = more_count es e count so_far.counted in (
+      record {
+        exchanges = es ++ e ∷ [];
+        rest = rest_after (rest_of mid) e.frame;
+        last = [];
+        answers = more_answers first mid new.link.server es e same so_far.answers next.served;
+        moments = more_moments first.server.clock mid.link.server.clock new.link.server.clock es e so_far.moments
+            next.served.moment;
+        frames = more_frames first.source.left (rest_of mid) (rest_after (rest_of mid) e.frame) es e so_far.frames
+            (drops_after (rest_of mid) e.frame next.frame);
+        most = omega (arith, below, more);
+        taken = gives;
+        end = inl (
+          sym more,
+          (
+            es,
+            e,
+            refl,
+            so_far.stays,
+            ahead (rest_of mid) new.window new.link.source.left e.frame next.kept next.here next.fits,
+            refl,
+          ),
+        );
+        output = inside_response first.sink.taken new.link.sink.taken es e count so_far.counted
+            (inside_more first.sink.taken mid.link.sink.taken new.link.sink.taken (bytes_of es) e.bytes so_far.output
+            next.output);
+      },
+      raised_more waits least mid.least new.least es e raised next.raises,
+    )
+stopped waits least limit first mid new count WriteFault below gives same so_far raised (inr stop) =
+    ended waits least limit first mid new count WriteFault (defect_text stop.0) below gives so_far raised stop.2
     (λ part. inside_behind first.sink.taken new.link.sink.taken so_far.exchanges (defect_text stop.0) count so_far.counted
     (inside_more first.sink.taken mid.link.sink.taken new.link.sink.taken (bytes_of so_far.exchanges)
     (defect_text stop.0) so_far.output part))
     (λ counted more. inr (counted, (more, (stop.0, stop.1, refl), stop.3)))
 
-pub session_stop : (limit : ℕ) (first : Link) (mid : Midway) (link : Link) (window : List ℕ) (count : ℕ) (end : End)
+pub session_stop : (waits : Bool) (least next_least limit : ℕ) (first : Link) (mid : Midway) (link : Link)
+    (window : List ℕ) (count : ℕ) (end : End)
     → count < limit
     → GivesAtMost (most_taken limit) first.source.left link.source.left
     → IsSameDesk first.server.desk mid.link.server.desk
-    → Going first mid count → Stops end mid (record { link = link; window = window })
-    → Visit limit first link (record { end = end; answered = count })
-session_stop limit first mid link window count end below gives same so_far stop =
-    stopped limit first mid (record { link = link; window = window }) count end below gives same so_far stop
+    → (so_far : Going first mid count) → RaisesAlong waits least mid.least so_far.exchanges
+    → Stops waits end mid (record { link = link; window = window; least = next_least })
+    → VisitAlong waits least next_least limit first link (record { end = end; answered = count })
+session_stop waits least next_least limit first mid link window count end below gives same so_far raised stop =
+    stopped waits least limit first mid (record { link = link; window = window; least = next_least }) count end below
+    gives same so_far raised stop
 
 -- what a connection is served with stays the same from turn to turn
 pub same_desk_trans : (a b c : DeskView) → IsSameDesk a b → IsSameDesk b c → IsSameDesk a c

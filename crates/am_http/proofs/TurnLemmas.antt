@@ -1,20 +1,25 @@
 -- One turn of a connection.
-use Rattle.std.proofs.Common.{◌≡◌, ℕ, suc, ◌≤◌, Bool, true, false, List, [], ◌++◌, length, drop, Option, Some, None, refl, sym, ap, ◌∙◌, subst, inl, inr, arith, append-nil}
-use Rattle.std.specs.Prelude.{IfSome, Result, Ok, Err, is_err}
+use Rattle.std.proofs.Common.{◌≡◌, ℕ, suc, ◌+◌, ◌≤◌, ◌<◌, ◌&&◌, Bool, true, false, IsTrue, List, [], ◌++◌, length, drop, Option, Some, None, refl, sym, ap, ◌∙◌, subst, inl, inr, arith, append-nil}
+use Rattle.std.specs.Prelude.{IfSome, Result, Ok, Err, is_err, is_some, nat_le, nat_lt}
 use Rattle.std.specs.Io.KnownBytes.{Appends, Keeps, prepend_known}
+use Rattle.std.proofs.lemmas.Bool.{ltb-true}
 use Rattle.std.proofs.lemmas.List.{drop-append-le}
 use Rattle.am_outside.specs.declared.failure.Failed.{Failed}
 use Rattle.am_outside.specs.Clock.{IsTold}
 use Rattle.am_types.specs.declared.history.Shown.{Shown}
-use Rattle.am_history.specs.History.{entries_of}
+use Rattle.am_types.specs.declared.history.Entry.{Entry}
+use Rattle.am_history.specs.State.{State, uid_of}
+use Rattle.am_history.specs.Steps.{Call}
+use Rattle.am_history.specs.Desks.{ShowsAt}
+use Rattle.am_history.specs.History.{entries_of, has_room, may_change, replay, weight_of}
 use Rattle.am_frames.specs.declared.frame.Defect.{Defect}
 use Rattle.am_frames.specs.declared.frame.FrameSpans.{FrameSpans}
 use Rattle.am_frames.specs.declared.frame.Found.{Found}
 use Rattle.am_frames.specs.declared.frame.Found.TheVariants as Spans
 use Rattle.am_http.specs.declared.answer.Answer.{Answer}
 use Rattle.am_http.specs.declared.answer.Answer.TheVariants.{Refused, Reply, NoMemory as RanOut}
-use Rattle.am_http.specs.Answering.{AnswersAt, AnswersFrame, Says}
-use Rattle.am_http.specs.Exchanges.{Answered, Exchange, ShowsIn, refused_at_once, replied, wanted, ran_out_late}
+use Rattle.am_http.specs.Answering.{AnswersAt, AnswersFrame, HasNext, Says, point_of}
+use Rattle.am_http.specs.Exchanges.{Answered, Exchange, Raises, ShowsIn, refused_at_once, replied, wanted, ran_out_late}
 use Rattle.am_frames.specs.FrameSpans.{outcome_at, frame_at}
 use Rattle.am_http.specs.Frames.{Drops}
 use Rattle.am_frames.specs.Framing.{IsFraming}
@@ -102,10 +107,41 @@ answered_at old new f now (Refused refusal) answers told next = absurd answers
 answered_at old new f now (Reply shown) answers told next = (now, answers.0, answers.1, answers.2, (told, next))
 answered_at old new f now RanOut answers told next = (answers, (Some now, (told, next)))
 
+-- the last of three tests that all hold
+last_of : (a b c : Bool) → (a && b && c) ≡ true → c ≡ true
+last_of true true c all = all
+last_of true false c all = absurd (let e = all in cc)
+last_of false b c all = absurd (let e = all in cc)
+
+first_of : (a b : Bool) → (a && b) ≡ true → a ≡ true
+first_of true b all = refl
+first_of false b all = absurd (let e = all in cc)
+
+-- a call is stored only while the history has room for further entries
+stored_below : (start : State) (before after : List Entry) (call : Call) (shown : Shown)
+    → ShowsAt start before after call shown → shown.stored ≡ true → shown.at < 18446744073709551615
+stored_below start before after call shown shows stored =
+    let state = replay start before in
+    let room : has_room before call.weight ≡ true =
+    last_of (is_some (uid_of state call.key)) (may_change state call.now call.request) (has_room before call.weight)
+    (sym shows.stored ∙ stored) in
+    let below : length before < 1048576 =
+    ltb-true (length before) 1048576
+    (first_of (nat_lt (length before) 1048576) (nat_le (weight_of before + call.weight) 536870912) room) in
+    let at = shows.at in
+    omega (arith, below, at)
+
+-- so a place follows that of a stored call
+pub next_of : (old new : Server) (f : Frame) (answer : Answer) → AnswersFrame old new f answer
+    → HasNext (point_of answer)
+next_of old new f (Refused refusal) answers = tt
+next_of old new f (Reply shown) answers = stored_below _ _ _ _ shown answers.3.2
+next_of old new f RanOut answers = tt
+
 -- a call that was shown is an exchange, whichever text says so
 shown_exchange : (old new : Server) (f : Frame) (shown : Shown) (bytes : List ℕ) → AnswersFrame old new f (Reply shown)
     → ((e : Exchange) → ShowsIn old.desk new.desk e shown → e.bytes ≡ bytes → Answered old.desk new.desk e)
-    → (e : Exchange) × Serves old new e × (e.frame ≡ f) × (e.bytes ≡ bytes)
+    → (e : Exchange) × Serves old new e × (e.frame ≡ f) × (e.bytes ≡ bytes) × (e.point ≡ point_of (Reply shown))
 shown_exchange old new f shown bytes answers says = (
   record {
     frame = f;
@@ -135,15 +171,17 @@ shown_exchange old new f shown bytes answers says = (
   },
   refl,
   refl,
+  refl,
 )
 
 -- an answer with its text is an exchange
 exchange_of : (old new : Server) (f : Frame) (answer : Answer) (bytes : List ℕ) → AnswersFrame old new f answer
     → Says answer bytes
-    → (e : Exchange) × Serves old new e × (e.frame ≡ f) × (e.bytes ≡ bytes)
+    → (e : Exchange) × Serves old new e × (e.frame ≡ f) × (e.bytes ≡ bytes) × (e.point ≡ point_of answer)
 exchange_of old new f (Refused refusal) bytes answers (inl said) = (
   record { frame = f; now = None; point = None; bytes = bytes },
   record { answer = refused_at_once refusal answers.0 refl refl said answers.1; moment = answers.2 },
+  refl,
   refl,
   refl,
 )
@@ -161,6 +199,7 @@ exchange_of old new f (Refused refusal) bytes answers (inr said) = (
   },
   refl,
   refl,
+  refl,
 )
 exchange_of old new f (Reply shown) bytes answers (inl said) =
     shown_exchange old new f shown bytes answers (λ e shows same. replied shown shows (same ∙ said))
@@ -169,6 +208,7 @@ exchange_of old new f (Reply shown) bytes answers (inr said) =
 exchange_of old new f RanOut bytes answers said = (
   record { frame = f; now = answers.1.0; point = None; bytes = bytes },
   record { answer = wanted answers.0 refl said; moment = answers.1.1 },
+  refl,
   refl,
   refl,
 )
@@ -181,15 +221,17 @@ behind_frame rest w used left f keeps framed is =
     subst (λ (xs : List ℕ). Drops rest f (prepend_known xs left)) is (drops_of rest w left f keeps framed)
 
 -- the frame was answered, and its response written
-pub turn_replied : (close : Bool) (old new : Midway) (w : List ℕ) (f : Frame) (answer : Answer) (bytes : List ℕ)
+pub turn_replied : (waits close : Bool) (old new : Midway) (w : List ℕ) (f : Frame) (answer : Answer) (bytes : List ℕ)
     → Keeps (rest_of old) (prepend_known w new.link.source.left) → IsFraming w (whole f) → drop f.length w ≡ new.window
     → AnswersFrame old.link.server new.link.server f answer → Says answer bytes
-    → Appends old.link.sink.taken new.link.sink.taken bytes → f.close ≡ close → Replies close old new
-turn_replied close old new w f answer bytes keeps framed used answers said sent closes =
+    → Raises waits old.least new.least (point_of answer)
+    → Appends old.link.sink.taken new.link.sink.taken bytes → f.close ≡ close → Replies waits close old new
+turn_replied waits close old new w f answer bytes keeps framed used answers said raised sent closes =
     let made = exchange_of old.link.server new.link.server f answer bytes answers said in
     record {
       exchange = made.0;
       served = made.1;
+      raises = subst (Raises waits old.least new.least) (sym made.4) raised;
       frame = subst (λ (x : Frame). Drops (rest_of old) x (rest_of new)) (sym made.2)
           (behind_frame (rest_of old) w new.window new.link.source.left f keeps framed used);
       closes = ap (λ (x : Frame). x.close) made.2 ∙ closes;
@@ -197,15 +239,17 @@ turn_replied close old new w f answer bytes keeps framed used answers said sent 
     }
 
 -- the response wasn't written whole
-pub turn_failed : (old new : Midway) (f : Frame) (answer : Answer) (bytes : List ℕ)
+pub turn_failed : (waits : Bool) (old new : Midway) (f : Frame) (answer : Answer) (bytes : List ℕ)
     → Keeps (rest_of old) (rest_of new) → IsFraming new.window (whole f) → length new.window ≤ most_held
     → AnswersFrame old.link.server new.link.server f answer → Says answer bytes
-    → WritesPart old.link.sink.taken new.link.sink.taken bytes → FailsAtAnswer old new
-turn_failed old new f answer bytes keeps framed fits answers said part =
+    → Raises waits old.least new.least (point_of answer)
+    → WritesPart old.link.sink.taken new.link.sink.taken bytes → FailsAtAnswer waits old new
+turn_failed waits old new f answer bytes keeps framed fits answers said raised part =
     let made = exchange_of old.link.server new.link.server f answer bytes answers said in
     record {
       exchange = made.0;
       served = made.1;
+      raises = subst (Raises waits old.least new.least) (sym made.4) raised;
       frame = subst (λ (x : Frame). IfSome (rest_of old) (λ input. IsFraming input (whole x))) (sym made.2)
           (told_frame (rest_of old) new.window new.link.source.left f keeps framed);
       kept = keeps;
@@ -233,18 +277,19 @@ sends_ok old new text (Ok done) fine sent = sent
 sends_ok old new text (Err e) fine sent = absurd cc
 
 -- the frame that slices of the window hold was answered, its response written, and the window used up to behind it
-pub turn_held : {close : Bool} {old new : Midway} {w bytes : List ℕ} {found : Found} {spans : FrameSpans} {f : Frame}
+pub turn_held : {waits close : Bool} {old new : Midway} {w bytes : List ℕ} {found : Found} {spans : FrameSpans} {f : Frame}
     (answer : Answer) (text : List ℕ) (r : Result (Unit {0}) Failed)
     → Keeps (rest_of old) (prepend_known w new.link.source.left) → Finds w new.link.source.left found → found
     ≡ Spans.Whole spans → bytes ≡ w → f ≡ frame_at bytes spans
     → new.window ≡ drop spans.length w → AnswersFrame old.link.server new.link.server f answer → Says answer text
+    → Raises waits old.least new.least (point_of answer)
     → false ≡ is_err r → Sends old.link.sink.taken new.link.sink.taken text r → spans.close ≡ close
-    → Replies close old new
-turn_held {close} {old} {new} {w} {bytes} {found} {spans} {f} answer text r keeps finds is same held used answers
-    said fine sent closes =
-    turn_replied close old new w f answer text keeps (held_frame w bytes new.link.source.left found spans f finds is
+    → Replies waits close old new
+turn_held {waits} {close} {old} {new} {w} {bytes} {found} {spans} {f} answer text r keeps finds is same held used
+    answers said raised fine sent closes =
+    turn_replied waits close old new w f answer text keeps (held_frame w bytes new.link.source.left found spans f finds is
     same held)
-    (ap (λ n. drop n w) (ap (λ (x : Frame). x.length) held) ∙ sym used) answers said
+    (ap (λ n. drop n w) (ap (λ (x : Frame). x.length) held) ∙ sym used) answers said raised
     (sends_ok old.link.sink.taken new.link.sink.taken text r fine sent) (ap (λ (x : Frame). x.close) held ∙ closes)
 
 -- an empty window leaves what the source tells

@@ -1,14 +1,26 @@
 -- The answer to a frame, and the text that says it.
-use Rattle.std.specs.Prelude.{◌≡◌, ℕ, ◌⊎◌, List, [], ◌∷◌, Option, Ok, Err}
+use Rattle.std.specs.Prelude.{◌≡◌, ℕ, ◌<◌, ◌⊎◌, List, [], ◌∷◌, Option, Some, None, Ok, Err, IsTrue, ⊤}
 use Rattle.std.specs.Option.{option_to_list}
 use Rattle.am_types.specs.declared.request.Request.{Request}
 use Rattle.am_history.specs.Desks.{DeskView, Shows, SeesOthers}
 use Rattle.am_http.specs.declared.answer.Answer.{Answer}
 use Rattle.am_http.specs.declared.answer.Answer.TheVariants.{Refused, Reply, NoMemory as RanOut}
 use Rattle.am_frames.specs.Head.{Frame}
+use Rattle.am_http.specs.Exchanges.{Point}
 use Rattle.am_http.specs.Links.{Server, Gives}
 use Rattle.am_http.specs.Requests.{request_of, refusal_text, call_of}
 use Rattle.am_http.specs.Responses.{response, no_memory_before, no_memory_at}
+
+-- the place of the call that was answered, if it was made
+abbrev pub point_of : Answer → Option Point
+point_of (Refused refusal) = None
+point_of (Reply shown) = Some (record { at = shown.at; stored = shown.stored })
+point_of RanOut = None
+
+-- behind a stored call a 64-bit number has a further place
+abbrev pub HasNext : Option Point → Type 0
+HasNext None = ⊤
+HasNext (Some point) = IsTrue point.stored → point.at < 18446744073709551615
 
 -- the answer to a frame that makes a request, whose call is made at that moment
 abbrev pub AnswersAt : DeskView → DeskView → Frame → ℕ → Answer → Type 0

@@ -1,5 +1,5 @@
 -- Frames with their responses, and their places in the history.
-use Rattle.std.specs.Prelude.{◌≡◌, ℕ, ◌+◌, ◌≤◌, Bool, if◌then◌else◌, List, [], ◌∷◌, ◌++◌, length, take, slice_get, Option, Some, None, Ok, Err, ⊤}
+use Rattle.std.specs.Prelude.{◌≡◌, ℕ, ◌+◌, ◌≤◌, Bool, IsTrue, if◌then◌else◌, List, [], ◌∷◌, ◌++◌, length, take, slice_get, Option, Some, None, Ok, Err, ⊤}
 use Rattle.std.specs.Bool.{OnTrue}
 use Rattle.std.specs.List.{flat_map, AllByRecursion}
 use Rattle.std.specs.Option.{option_to_list}
@@ -87,6 +87,15 @@ AreInOrder floor (first ∷ others) = IsAbove floor first.point × AreInOrder (f
 abbrev pub floor_of : ℕ → List Exchange → ℕ
 floor_of floor [] = floor
 floor_of floor (first ∷ others) = floor_of (floor_after floor first.point) others
+
+-- a call at that point leaves the least place of a later one, and isn't below the one that was asked for if its desk
+-- waits
+abbrev pub Raises : Bool → ℕ → ℕ → Option Point → Type 0
+Raises waits least next point = (IsTrue waits → IsAbove least point) × (next ≡ floor_after least point)
+
+-- so do these calls, one after the other
+abbrev pub RaisesAlong : Bool → ℕ → ℕ → List Exchange → Type 0
+RaisesAlong waits least next es = (IsTrue waits → AreInOrder least es) × (next ≡ floor_of least es)
 
 -- the entry that a stored call became
 abbrev pub entry_at : List Entry → Option Point → List Entry

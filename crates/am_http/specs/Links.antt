@@ -60,10 +60,12 @@ link_of desk streams = record {
   sink = streams.output;
 }
 
--- a connection between two frames: what it is served with, and the bytes that were read and not used yet
+-- a connection between two frames: what it is served with, the bytes that were read and not used yet, and the least place
+-- of a later call
 pub record Midway : Type 0 where
   pub link : Link
   pub window : List ℕ
+  pub least : ℕ
 
 -- what is told to be left of the input between two frames
 abbrev pub rest_of : Midway → Option (List ℕ)

@@ -12,7 +12,7 @@ use Rattle.am_http.specs.declared.end.Served.{Served}
 use Rattle.am_frames.specs.Head.{empty, whole, refused, cut}
 use Rattle.am_frames.specs.Framing.{longest_frame, IsFraming}
 use Rattle.am_http.specs.Frames.{Leaves, Drops}
-use Rattle.am_http.specs.Exchanges.{Exchange, AreAnswered, Answered, frames_of, bytes_of, moments_of}
+use Rattle.am_http.specs.Exchanges.{Exchange, AreAnswered, Answered, Raises, frames_of, bytes_of, moments_of}
 use Rattle.am_http.specs.Links.{Link, Midway, Server, rest_of, Gives}
 use Rattle.am_http.specs.Responses.{refusal}
 use Rattle.am_http.specs.Sending.{StopsInside, WritesPart}
@@ -170,17 +170,19 @@ pub record Serves (old new : Server) (exchange : Exchange) : Type 0 where
   pub moment : Gives old.clock (option_to_list exchange.now) new.clock
 
 -- the next frame was answered, its response written, and it asks to close or not
-pub record Replies (close : Bool) (old new : Midway) : Type 0 where
+pub record Replies (waits close : Bool) (old new : Midway) : Type 0 where
   pub exchange : Exchange
   pub served : Serves old.link.server new.link.server exchange
+  pub raises : Raises waits old.least new.least exchange.point
   pub frame : Drops (rest_of old) exchange.frame (rest_of new)
   pub closes : exchange.frame.close ≡ close
   pub output : Appends old.link.sink.taken new.link.sink.taken exchange.bytes
 
 -- the next frame was answered, its response wasn't written whole, and the frame still stands in the window
-pub record FailsAtAnswer (old new : Midway) : Type 0 where
+pub record FailsAtAnswer (waits : Bool) (old new : Midway) : Type 0 where
   pub exchange : Exchange
   pub served : Serves old.link.server new.link.server exchange
+  pub raises : Raises waits old.least new.least exchange.point
   pub frame : IfSome (rest_of old) (λ input. IsFraming input (whole exchange.frame))
   pub kept : Keeps (rest_of old) (rest_of new)
   pub here : IsFraming new.window (whole exchange.frame)
@@ -195,6 +197,7 @@ pub record IsUnasked (old new : Server) : Type 0 where
 -- the connection ended at something other than a whole frame, and this is what its sink took
 pub record IsLast (old new : Midway) (Takes : Option (List ℕ) → Option (List ℕ) → Type 0) : Type 0 where
   pub unasked : IsUnasked old.link.server new.link.server
+  pub least : new.least ≡ old.least
   pub output : Takes old.link.sink.taken new.link.sink.taken
 
 -- the connection ended at a defect, for whose text this is what its sink took
@@ -204,13 +207,13 @@ StopsAtDefect old new Takes =
     × IsLast old new (λ taken taken'. Takes taken taken' (defect_text defect))
     × GivesAtMost most_held (rest_of old) new.link.source.left
 
--- the connection ended before a further frame was answered whole
-abbrev pub Stops : End → Midway → Midway → Type 0
-Stops Input old new = IfSome (rest_of old) (λ bytes. bytes ≡ []) × IsLast old new Keeps
-Stops Close old new = ⊥
-Stops Refused old new = StopsAtDefect old new Appends
-Stops Cut old new = IfSome (rest_of old) (λ bytes. IsFraming bytes cut) × IsLast old new Keeps
-Stops Limit old new = ⊥
-Stops Idle old new = Keeps (rest_of old) new.link.source.left × IsLast old new Keeps
-Stops ReadFault old new = IsPartial new.window × Keeps (rest_of old) (rest_of new) × IsLast old new Keeps
-Stops WriteFault old new = FailsAtAnswer old new ⊎ StopsAtDefect old new WritesPart
+-- the connection ended before a further frame was answered whole, where the desk waits for the least place or not
+abbrev pub Stops : Bool → End → Midway → Midway → Type 0
+Stops waits Input old new = IfSome (rest_of old) (λ bytes. bytes ≡ []) × IsLast old new Keeps
+Stops waits Close old new = ⊥
+Stops waits Refused old new = StopsAtDefect old new Appends
+Stops waits Cut old new = IfSome (rest_of old) (λ bytes. IsFraming bytes cut) × IsLast old new Keeps
+Stops waits Limit old new = ⊥
+Stops waits Idle old new = Keeps (rest_of old) new.link.source.left × IsLast old new Keeps
+Stops waits ReadFault old new = IsPartial new.window × Keeps (rest_of old) (rest_of new) × IsLast old new Keeps
+Stops waits WriteFault old new = FailsAtAnswer waits old new ⊎ StopsAtDefect old new WritesPart

@@ -1,15 +1,15 @@
 -- One turn of a connection: what became of its next frame.
-use Rattle.std.specs.Prelude.{true, false, ⊤}
+use Rattle.std.specs.Prelude.{Bool, true, false, ⊤}
 use Rattle.am_http.specs.declared.connection.Turn.{Turn}
 use Rattle.am_http.specs.declared.connection.Turn.TheVariants as turn
 use Rattle.am_http.specs.Links.{Link, Midway}
 use Rattle.am_http.specs.Sessions.{Replies, Stops, HasFault}
 
 -- the frame was answered and the connection goes on, or was closed, or it ended
-abbrev pub Turns : Turn → Midway → Midway → Type 0
-Turns turn.Went old new = Replies false old new
-Turns turn.Closed old new = Replies true old new
-Turns (turn.Stopped end) old new = Stops end old new
+abbrev pub Turns : Bool → Turn → Midway → Midway → Type 0
+Turns waits turn.Went old new = Replies waits false old new
+Turns waits turn.Closed old new = Replies waits true old new
+Turns waits (turn.Stopped end) old new = Stops waits end old new
 
 -- an end by a fault has its cause
 abbrev pub HasFaultAt : Turn → Link → Link → Type 0

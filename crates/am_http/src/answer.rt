@@ -1,11 +1,12 @@
 //! The answer to a frame.
-ghost use Rattle.std.specs.Prelude.{◌≡◌, ◌≤◌, length, IfOk, IsUtf8};
+ghost use Rattle.std.specs.Prelude.{◌≡◌, ◌≤◌, length, IfOk, IsTrue, IsUtf8};
 ghost use Rattle.am_types.specs.Bounds.{longest_body};
 ghost use Rattle.am_types.specs.Reading.{Gives};
 ghost use Rattle.am_wire.specs.Requests.{request_of as request_at};
 ghost use Rattle.am_frames.specs.FrameSpans.{frame_held};
 ghost use Rattle.am_http.specs.Requests.{request_of, request_or};
-ghost use Rattle.am_http.specs.Answering.{AnswersAt, AnswersFrame};
+ghost use Rattle.am_http.specs.Answering.{AnswersAt, AnswersFrame, HasNext, point_of};
+ghost use Rattle.am_http.specs.Exchanges.{IsAbove, floor_after};
 ghost use Rattle.am_http.specs.Links.{GoesOn};
 
 use am_desk::{Desk, DeskCall};
@@ -81,18 +82,20 @@ pub fn key_text(alloc: Global, key: &[u8]) -> Result<Text, NoMemory>
     }
 }
 
-// Makes the call of a frame.
+// Makes the call of a frame, whose answer has that least place.
 fn call<D: Desk>(
     alloc: Global,
     desk: &mut D,
     now: u64,
     frame: &WholeFrame<'_>,
     request: Request,
+    least: u64,
 ) -> Answer
     requires key { IsUtf8 (frame_held frame.now).key }
     requires body { length (frame_held frame.now).body ≤ longest_body }
     requires request { request_of (frame_held frame.now) ≡ Ok request }
     ensures answer { AnswersAt (D.view desk.old) (D.view desk.new) (frame_held frame.now) now result }
+    ensures least { IsTrue D.waits → IsAbove least (point_of result) }
     ensures goes_on { GoesOn (D.view desk.old) (D.view desk.new) }
 {
     let Ok(key) = key_text(alloc, frame.key) else {
@@ -104,19 +107,22 @@ fn call<D: Desk>(
         now,
         weight: frame.body.len() as u32,
         request,
+        least,
     }) {
         Ok(shown) => Answer::Reply(shown),
         Err(NoMemory) => Answer::NoMemory,
     }
 }
 
-/// Answers a frame: if the frame makes a request, it asks the clock once and makes the call.
+/// Answers a frame: if the frame makes a request, it asks the clock once and makes the call, whose answer has that least
+/// place.
 pub fn answer_frame<D: Desk, C: Clock>(
     alloc: Global,
     routes: &Routes,
     desk: &mut D,
     clock: &mut C,
     frame: &WholeFrame<'_>,
+    least: u64,
 ) -> Answer
     requires key { IsUtf8 (frame_held frame.now).key }
     requires body { length (frame_held frame.now).body ≤ longest_body }
@@ -124,14 +130,27 @@ pub fn answer_frame<D: Desk, C: Clock>(
         (record { desk = D.view desk.old; clock = C.moments clock.old })
         (record { desk = D.view desk.new; clock = C.moments clock.new })
         (frame_held frame.now) result }
+    ensures least { IsTrue D.waits → IsAbove least (point_of result) }
     ensures goes_on { GoesOn (D.view desk.old) (D.view desk.new) }
 {
     match request_of(alloc, routes, frame) {
         Ok(request) => {
             let now = clock.now();
-            call(alloc, desk, now, frame, request)
+            call(alloc, desk, now, frame, request, least)
         }
         Err(Unmade::Fault(refusal)) => Answer::Refused(refusal),
         Err(Unmade::NoMemory) => Answer::NoMemory,
+    }
+}
+
+/// The least place of a later answer, once this one was given.
+pub fn least_after(least: u64, answer: &Answer) -> u64
+    requires { HasNext (point_of answer.now) }
+    ensures { result ≡ floor_after least (point_of answer.now) }
+{
+    match answer {
+        Answer::Reply(shown) if shown.stored => shown.at + 1,
+        Answer::Reply(shown) => shown.at,
+        Answer::Refused(_) | Answer::NoMemory => least,
     }
 }

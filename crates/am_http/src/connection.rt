@@ -1,11 +1,12 @@
 //! One connection, from its first frame to its end.
 ghost use Rattle.std.specs.Prelude.{◌≡◌, ◌≤◌, ◌-◌, true, vec_capacity};
 ghost use Rattle.am_outside.specs.Counts.{HasRisen};
+ghost use Rattle.am_http.specs.Exchanges.{RaisesAlong};
 ghost use Rattle.am_http.specs.Links.{IsSameLink, link_of, streams_of};
 ghost use Rattle.am_http.specs.Sessions.{Session, Visit, HasFault, GivesAtMost, most_frames, most_held};
 ghost use Rattle.am_http.specs.Turns.{Turns, HasFaultAt};
 
-use crate::answer::answer_frame;
+use crate::answer::{answer_frame, least_after};
 use crate::buffers::Buffers;
 use crate::end::{End, Served};
 use crate::reader::{is_idle, next_frame};
@@ -41,16 +42,19 @@ fn serve_frame<D: Desk, S: Source, W: Sink, C: Clock>(
     routes: &Routes,
     window: &mut Window,
     room: &mut Vec<u8>,
+    least: &mut u64,
 ) -> Turn
     requires { 192 ≤ vec_capacity room.old }
-    ensures turn { Turns result
+    ensures turn { Turns D.waits result
         (record {
           link = link_of (D.view desk.old) (streams_of S.Source W.Sink C.Clock source.old sink.old clock.old);
           window = window.old;
+          least = least.old;
         })
         (record {
           link = link_of (D.view desk.new) (streams_of S.Source W.Sink C.Clock source.new sink.new clock.new);
           window = window.new;
+          least = least.new;
         }) }
     ensures gives { GivesAtMost most_held (S.left source.old) (S.left source.new) }
     ensures fault { HasFaultAt result
@@ -77,7 +81,15 @@ fn serve_frame<D: Desk, S: Source, W: Sink, C: Clock>(
             };
         }
     };
-    let answer = answer_frame(alloc, routes, desk, clock, &spans.of(window.bytes()));
+    let answer = answer_frame(
+        alloc,
+        routes,
+        desk,
+        clock,
+        &spans.of(window.bytes()),
+        *least,
+    );
+    *least = least_after(*least, &answer);
     let written = write_answer(alloc, sink, room, answer);
     if written.is_err() {
         return Turn::Stopped(End::WriteFault);
@@ -101,17 +113,20 @@ fn serve_turn<D: Desk, S: Source, W: Sink, C: Clock>(
     routes: &Routes,
     window: &mut Window,
     room: &mut Vec<u8>,
+    least: &mut u64,
     rests: bool,
 ) -> Turn
     requires { 192 ≤ vec_capacity room.old }
-    ensures turn { Turns result
+    ensures turn { Turns D.waits result
         (record {
           link = link_of (D.view desk.old) (streams_of S.Source W.Sink C.Clock source.old sink.old clock.old);
           window = window.old;
+          least = least.old;
         })
         (record {
           link = link_of (D.view desk.new) (streams_of S.Source W.Sink C.Clock source.new sink.new clock.new);
           window = window.new;
+          least = least.new;
         }) }
     ensures gives { GivesAtMost most_held (S.left source.old) (S.left source.new) }
     ensures fault { HasFaultAt result
@@ -128,13 +143,18 @@ fn serve_turn<D: Desk, S: Source, W: Sink, C: Clock>(
     if rests && is_idle(source, window) {
         return Turn::Stopped(End::Idle);
     }
-    serve_frame(alloc, desk, source, sink, clock, routes, window, room)
+    serve_frame(
+        alloc, desk, source, sink, clock, routes, window, room, least,
+    )
 }
 
 /// Serves a connection as `serve_connection` does, after so many of its frames were answered before.
 /// If it may rest, it ends as `Idle` when the source says that a read would wait. It asks the source
 /// before each frame of which no byte was read: then all that was taken from the source are
 /// frames that were answered. `answered` counts the frames of this call.
+///
+/// The places of the answers aren't below `least` if the desk waits, nor below an earlier one, and
+/// after a stored call they are above its place. `least` is then the least place of a later answer.
 pub fn serve_link<D: Desk, S: Source, W: Sink, C: Clock>(
     alloc: Global,
     desk: &mut D,
@@ -143,12 +163,13 @@ pub fn serve_link<D: Desk, S: Source, W: Sink, C: Clock>(
     clock: &mut C,
     buffers: &mut Buffers,
     before: u32,
+    least: &mut u64,
     rests: bool,
 ) -> Served
-    ensures session { Visit (most_frames - before)
+    ensures session { (visit : Visit (most_frames - before)
         (link_of (D.view desk.old) (streams_of S.Source W.Sink C.Clock source.old sink.old clock.old))
         (link_of (D.view desk.new) (streams_of S.Source W.Sink C.Clock source.new sink.new clock.new))
-        result }
+        result) × RaisesAlong D.waits least.old least.new visit.exchanges }
     ensures fault { HasFault result.end
         (link_of (D.view desk.old) (streams_of S.Source W.Sink C.Clock source.old sink.old clock.old))
         (link_of (D.view desk.new) (streams_of S.Source W.Sink C.Clock source.new sink.new clock.new)) }
@@ -171,6 +192,7 @@ pub fn serve_link<D: Desk, S: Source, W: Sink, C: Clock>(
             &buffers.routes,
             &mut buffers.window,
             &mut buffers.room,
+            least,
             rests,
         ) {
             Turn::Went => {}
@@ -216,5 +238,8 @@ pub fn serve_connection<D: Desk, S: Source, W: Sink, C: Clock>(
         (link_of (D.view desk.new) (streams_of S.Source W.Sink C.Clock source.new sink.new clock.new)) }
     ensures whole { result.end ≡ End.Idle → ⊥ }
 {
-    serve_link(alloc, desk, source, sink, clock, buffers, 0, false)
+    let mut least = 0;
+    serve_link(
+        alloc, desk, source, sink, clock, buffers, 0, &mut least, false,
+    )
 }

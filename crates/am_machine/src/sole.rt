@@ -47,7 +47,7 @@ impl<K: Keeper> SoleDesk<K> {
 }
 
 impl<K: Keeper> Desk for SoleDesk<K> {
-    ghost use Rattle.std.specs.Prelude.{[]};
+    ghost use Rattle.std.specs.Prelude.{[], false};
 
     ghost view = { λ d. record {
       origin = d.managed.origin;
@@ -55,6 +55,9 @@ impl<K: Keeper> Desk for SoleDesk<K> {
       sharing = record { id = []; desks = 1; handed = d.handed };
       seen = d.managed.history;
     } };
+
+    // Nobody else makes calls for which it could wait.
+    ghost waits = { false };
 
     fn call(&mut self, asked: DeskCall<'_>) -> Result<Shown, NoMemory> {
         self.manager

@@ -4,6 +4,7 @@ use Rattle.std.specs.List.{AllByRecursion}
 use Rattle.am_outside.specs.Memory.{one_more}
 use Rattle.am_outside.specs.declared.outside.Source.{Ghosts as SourceGhosts}
 use Rattle.am_outside.specs.declared.outside.Sink.{Ghosts as SinkGhosts}
+use Rattle.am_network.specs.declared.progress.Progress.{Progress}
 
 -- a link: what is left of its bytes and what it took, if its two ends tell that, their counts of faults, their marks,
 -- and how many times its reader said that a read would wait
@@ -28,18 +29,18 @@ link_of r w reader writer = record {
   write_mark = w.mark writer;
 }
 
--- a link between two visits: how it is, and how many of its frames were answered so far
+-- a link between two visits: how it is, and how far
 pub record Stand : Type 0 where
   pub link : LinkView
-  pub answered : ℕ
+  pub progress : Progress
 
--- a link as it is handed out: how it is, and how many of its frames were answered so far if it is handed out again
+-- a link as it is handed out: how it is, and how far it was before if it is handed out again
 pub record Handed : Type 0 where
   pub link : LinkView
-  pub before : Option ℕ
+  pub before : Option Progress
 
 -- how many links are handed out for the first time by that: one, or none if it is handed out again
-abbrev pub firsts : Option ℕ → ℕ
+abbrev pub firsts : Option Progress → ℕ
 firsts None = 1
 firsts (Some before) = 0
 
@@ -109,7 +110,7 @@ abbrev pub HandsAgain : Links → Option Links → Handed → Type 0
 HandsAgain links new handed =
     (before : List Stand) × (stand : Stand) × (after : List Stand)
     × (links.parked ≡ before ++ stand ∷ after) × (new ≡ Some (record links { parked = before ++ after }))
-    × (handed ≡ record { link = stand.link; before = Some stand.answered })
+    × (handed ≡ record { link = stand.link; before = Some stand.progress })
 
 -- the gate handed out a link, for the first time or again
 abbrev pub HandsOn : Option Links → Option Links → Handed → Type 0
@@ -142,7 +143,7 @@ IsUnread None given = ⊤
 IsUnread (Some links) given = given ≡ Some []
 
 -- the same of a link that was handed out, unless it was again
-abbrev pub IsUnreadAtFirst : Option Links → Option ℕ → Option (List ℕ) → Type 0
+abbrev pub IsUnreadAtFirst : Option Links → Option Progress → Option (List ℕ) → Type 0
 IsUnreadAtFirst links None given = IsUnread links given
 IsUnreadAtFirst links (Some before) given = ⊤
 

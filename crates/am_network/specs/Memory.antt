@@ -9,6 +9,7 @@ use Rattle.am_network.specs.declared.memory_link.MemoryReader.{MemoryReader}
 use Rattle.am_network.specs.declared.memory_link.MemoryWriter.{MemoryWriter}
 use Rattle.am_network.specs.declared.memory_link.MemoryLink.{MemoryLink}
 use Rattle.am_network.specs.declared.memory_gate.GatePlan.{GatePlan}
+use Rattle.am_network.specs.declared.progress.Progress.{Progress}
 use Rattle.am_network.specs.Links.{GateView, Handed, LinkView, Links, Listening, raised_by}
 
 -- the ends of a planned link are unused: nothing was given, nothing was taken, and no fault was counted
@@ -38,7 +39,7 @@ ends_view ends = record {
 }
 
 -- a link that is handed out, as clauses on any gate see it
-abbrev pub handed_view : MemoryReader × MemoryWriter × Option ℕ → Handed
+abbrev pub handed_view : MemoryReader × MemoryWriter × Option Progress → Handed
 handed_view handed = record { link = ends_view (handed.0, handed.1); before = handed.2 }
 
 -- a link that was taken back, as clauses on any gate see it

@@ -5,10 +5,12 @@ mod memory_gate;
 mod memory_link;
 mod memory_network;
 mod network;
+mod progress;
 mod resting_reader;
 
 pub use memory_gate::{GatePlan, MemoryGate};
 pub use memory_link::{LinkPlan, MemoryLink, MemoryReader, MemoryWriter};
 pub use memory_network::MemoryNetwork;
 pub use network::{Acceptor, ListenFail, Network};
+pub use progress::Progress;
 pub use resting_reader::RestingReader;

@@ -7,6 +7,7 @@ ghost use Rattle.am_network.specs.Memory.{AreUnused, IsUnused, after_accept, aft
 
 use crate::memory_link::{LinkPlan, MemoryLink, MemoryReader, MemoryWriter};
 use crate::network::Acceptor;
+use crate::progress::Progress;
 use am_outside::{Calls, Failed};
 use am_types::List;
 use std::alloc::{AllocError, Global};
@@ -191,7 +192,7 @@ impl Acceptor for MemoryGate {
     fn next_link(
         &mut self,
         takes_new: bool,
-    ) -> Result<Option<(MemoryReader, MemoryWriter, Option<u32>)>, Failed>
+    ) -> Result<Option<(MemoryReader, MemoryWriter, Option<Progress>)>, Failed>
         ensures exact { self.new ≡ after_next takes_new self.old result }
         ensures next { IfOk result (λ handed. HandsNext takes_new (Some (links_of self.old))
             (Some (links_of self.new)) (option_map handed_view handed)) }
@@ -210,7 +211,7 @@ impl Acceptor for MemoryGate {
         Ok(Some((reader, writer, None)))
     }
 
-    fn park(&mut self, reader: MemoryReader, writer: MemoryWriter, _answered: u32) -> bool
+    fn park(&mut self, reader: MemoryReader, writer: MemoryWriter, _progress: Progress) -> bool
         requires { MayTakeBack (Some (links_of self.old)) (ends_view (reader, writer)) }
         ensures exact { self.new ≡ unparked self.old (record { reader = reader; writer = writer }) }
         ensures parks { result ≡ false }

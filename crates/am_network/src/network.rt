@@ -5,6 +5,7 @@ ghost use Rattle.am_outside.specs.Counts.{HasRisen};
 ghost use Rattle.am_outside.specs.Memory.{one_more};
 ghost use Rattle.am_network.specs.Links.{AreBack, GateView, HandsNext, HandsOut, IsNewGate, IsNoneParked, IsUnread, IsUnreadAtFirst, Links, Listening, MayRelease, MayTakeBack, Parks, failed, link_of, listening_at, parking_counted, raised_by, released, taken_back};
 
+use crate::progress::Progress;
 use am_outside::{Failed, Sink, Source};
 use std::alloc::{AllocError, AllocFailed};
 use std::error::Error;
@@ -12,6 +13,10 @@ use std::fmt;
 
 /// A gate at which links arrive: it hands them out one after the other, and takes them back. A link is a connection of
 /// a peer: a reader of what the peer sends, and a writer to it. A gate and its links may be used in another thread.
+///
+/// A gate that parks links keeps each with its progress. If it shares them with other gates, so that a link may come
+/// again at another one, it doesn't tell its links; each link comes again with the progress that it was parked with all
+/// the same.
 pub trait Acceptor: Drop + Send {
     /// Where a link's bytes come from.
     type Reader: Source + Drop + Send;
@@ -54,16 +59,16 @@ pub trait Acceptor: Drop + Send {
         ensures faults { faults self.new ≡ faults self.old };
 
     /// Hands out the next link: one for the first time, as `accept` does, if new ones are taken, or one that was parked,
-    /// as it was then and with the count of its frames that were answered. A gate that parks links hands one out again
-    /// when its reader is ready. If no new ones are taken, it answers `None` once no link is left that was handed out.
-    /// If it tells its links, each one that was handed out is back.
+    /// as it was then and with its progress. A gate that parks links hands one out again when its reader is ready. If no
+    /// new ones are taken, it answers `None` once no link is left that was handed out. If it tells its links, each one
+    /// that was handed out is back.
     ///
     /// # Errors
     /// `Failed` as in `accept`.
     fn next_link(
         &mut self,
         takes_new: bool,
-    ) -> Result<Option<(Self::Reader, Self::Writer, Option<u32>)>, Failed>
+    ) -> Result<Option<(Self::Reader, Self::Writer, Option<Progress>)>, Failed>
         requires back { IfSome (links self.old) AreBack }
         ensures next { IfOk result (λ handed. HandsNext takes_new (links self.old) (links self.new)
             (option_map (λ link. record {
@@ -77,14 +82,13 @@ pub trait Acceptor: Drop + Send {
         ensures failed { OnErr result (faults self.new ≡ one_more (faults self.old)) }
         ensures counted { OnOk result (faults self.new ≡ faults self.old) };
 
-    /// Takes back a link whose reader isn't ready, with the count of its frames that were answered so far, and answers
-    /// whether it is parked, that is, handed out again later. Otherwise it is ended, as by `finish`, and that is a fault
-    /// of the gate. Takes no memory.
-    fn park(&mut self, reader: Self::Reader, writer: Self::Writer, answered: u32) -> bool
+    /// Takes back a link whose reader isn't ready, with its progress, and answers whether it is parked, that is, handed
+    /// out again later. Otherwise it is ended, as by `finish`, and that is a fault of the gate. Takes no memory.
+    fn park(&mut self, reader: Self::Reader, writer: Self::Writer, progress: Progress) -> bool
         requires { MayTakeBack (links self.old) (link_of Self.Reader.Source Self.Writer.Sink reader writer) }
         ensures parks { Parks result (links self.old) (links self.new) (record {
           link = link_of Self.Reader.Source Self.Writer.Sink reader writer;
-          answered = answered;
+          progress = progress;
         }) }
         ensures faults { faults self.new ≡ parking_counted result (faults self.old) }
         ensures never_falls { faults self.old ≤ faults self.new };

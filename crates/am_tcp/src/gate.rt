@@ -5,14 +5,15 @@ ghost use Rattle.am_outside.specs.Memory.{one_more};
 use crate::link::{TcpReader, TcpWriter};
 use crate::port::Port;
 use crate::table::Link;
-use am_network::Acceptor;
+use am_network::{Acceptor, Progress};
 use am_outside::Failed;
 use std::marker::Copy;
 use std::rt::Clock as Time;
 use std::sync::{Arc, Wait};
 
 /// A gate at a port, at which connections arrive. All gates of one `listen` share the port, its connections and three
-/// descriptors. A link arrives again at one of them that waits, whichever had it before. It is never closed.
+/// descriptors. A link arrives again at one of them that waits, whichever had it before, with the progress that it was
+/// parked with. It is never closed.
 ///
 /// A parked link is handed out again once its next request is there whole. One is handed out too if a server answers
 /// without more of it, if the peer has ended it, and when its time is over: then a read tells the end, or fails within
@@ -84,14 +85,14 @@ impl<R: Time + Wait + Copy + Drop + Send> Acceptor for TcpGate<R> {
     fn next_link(
         &mut self,
         takes_new: bool,
-    ) -> Result<Option<(TcpReader<R>, TcpWriter<R>, Option<u32>)>, Failed> {
+    ) -> Result<Option<(TcpReader<R>, TcpWriter<R>, Option<Progress>)>, Failed> {
         match self.port.next(self.rt, takes_new) {
             Ok(None) => Ok(None),
             Ok(Some(link)) => {
                 let before = if link.is_new {
                     None
                 } else {
-                    Some(link.answered)
+                    Some(link.progress)
                 };
                 Ok(Some((link.reader, link.writer, before)))
             }
@@ -99,8 +100,8 @@ impl<R: Time + Wait + Copy + Drop + Send> Acceptor for TcpGate<R> {
         }
     }
 
-    fn park(&mut self, reader: TcpReader<R>, writer: TcpWriter<R>, answered: u32) -> bool {
-        let is_parked = self.port.park(self.rt, reader, writer, answered);
+    fn park(&mut self, reader: TcpReader<R>, writer: TcpWriter<R>, progress: Progress) -> bool {
+        let is_parked = self.port.park(self.rt, reader, writer, progress);
         if !is_parked {
             let _ = self.failed();
         }

@@ -6,6 +6,7 @@ use crate::faults::{is_of_peer, is_shortage};
 use crate::limits::Limits;
 use crate::link::{TcpReader, TcpWriter, open};
 use crate::table::{Link, Table, Turn};
+use am_network::Progress;
 use mio::unix::SourceFd;
 use mio::{Interest, Poll, Token};
 use os::EpollEvent;
@@ -313,13 +314,13 @@ impl<R: Time + Wait + Copy + Drop> Port<R> {
         unreachable!()
     }
 
-    /// Keeps a link, of which so many requests were answered, until its next one is there. Answers whether it does so.
+    /// Keeps a link, which is so far, until its next request is there. Answers whether it does so.
     pub(crate) fn park(
         &self,
         rt: R,
         mut reader: TcpReader<R>,
         writer: TcpWriter<R>,
-        answered: u32,
+        progress: Progress,
     ) -> bool {
         let Ok(now) = Instant::now(&rt) else {
             self.table.lock(&rt).count_end();
@@ -328,7 +329,7 @@ impl<R: Time + Wait + Copy + Drop> Port<R> {
         };
         reader.shrink();
         let mut link = Link::new(reader, writer, now, self.limits.idle);
-        link.answered = answered;
+        link.progress = progress;
         link.hurry(&self.limits);
         self.keep(rt, link);
         true

@@ -3,6 +3,7 @@ ghost use Rattle.std.specs.Prelude.{◌≡◌};
 
 use crate::limits::Limits;
 use crate::link::{TcpReader, TcpWriter};
+use am_network::Progress;
 use std::alloc::{AllocError, Global};
 use std::mem::replace;
 use std::time::{Duration, Instant};
@@ -16,12 +17,12 @@ const PAUSE_MILLIS: u64 = 50;
 /// How many milliseconds a link has waited for its request, at least, that is ended for the place of another one.
 const PATIENCE_MILLIS: u64 = 1_000;
 
-/// A connection, with the count of its requests that were answered.
+/// A connection, and how far it is.
 #[derive(Drop)]
 pub(crate) struct Link<R> {
     pub(crate) reader: TcpReader<R>,
     pub(crate) writer: TcpWriter<R>,
-    pub(crate) answered: u32,
+    pub(crate) progress: Progress,
     /// Whether it was never handed out.
     pub(crate) is_new: bool,
     /// Whether the peer was told the end.
@@ -46,7 +47,10 @@ impl<R> Link<R> {
         Link {
             reader,
             writer,
-            answered: 0,
+            progress: Progress {
+                answered: 0,
+                least: 0,
+            },
             is_new: false,
             is_leaving: false,
             is_reported: false,

@@ -1,5 +1,5 @@
 //! A server's network and its clients, over TCP on 127.0.0.1.
-use am_network::{Acceptor, ListenFail, Network};
+use am_network::{Acceptor, ListenFail, Network, Progress};
 use am_outside::{Failed, Sink, Source};
 use am_tcp::{Limits, TcpGate, TcpNetwork, TcpReader, TcpWriter};
 use std::alloc::Global;
@@ -299,15 +299,27 @@ fn a_silent_peer_ends_its_link_alone(rt: HostRuntime) -> Result<(), Fail> {
     Ok(())
 }
 
-/// The next link of a gate, with its first request and the count of those that were answered.
+/// How far a link is that was handed out for the first time.
+const FIRST: Progress = Progress {
+    answered: 0,
+    least: 0,
+};
+
+/// How far one is of which a request was answered.
+const SECOND: Progress = Progress {
+    answered: 1,
+    least: 1,
+};
+
+/// The next link of a gate, with its first request and how far it is.
 fn asked<R: Clock + Wait + Copy + Drop + Send>(
     alloc: Global,
     gate: &mut TcpGate<R>,
     length: usize,
-) -> Result<(Link<R>, String, u32), Fail> {
+) -> Result<(Link<R>, String, Progress), Fail> {
     let (mut reader, writer, before) = gate.next_link(true)?.ok_or("a link")?;
     let text = received(alloc, &mut reader, length)?;
-    Ok((Link { reader, writer }, text, before.unwrap_or(0)))
+    Ok((Link { reader, writer }, text, before.unwrap_or(FIRST)))
 }
 
 #[test]
@@ -317,16 +329,21 @@ fn a_link_rests(rt: HostRuntime) -> Result<(), Fail> {
     let mut slow = client_of(&rt, network.local_addr())?;
     slow.write_all(b"GET /s")?;
     client.write_all(b"GET / HTTP/1.1\r\n\r\n")?;
-    let (mut link, text, answered) = asked(alloc, &mut gate, 18)?;
+    let (mut link, text, progress) = asked(alloc, &mut gate, 18)?;
     assert_eq!(rt; text.as_str(), "GET / HTTP/1.1\r\n\r\n");
-    assert_eq!(rt; answered, 0);
+    assert_eq!(rt; progress.answered, 0);
     assert!(rt; !link.reader.is_ready());
-    assert!(rt; gate.park(link.reader, link.writer, 7));
+    let progress = Progress {
+        answered: 7,
+        least: 9,
+    };
+    assert!(rt; gate.park(link.reader, link.writer, progress));
     // A request that isn't there whole is held back, and none of its bytes is lost.
     client.write_all(b"GET /a HTTP/1.1\r\n\r\nGET /b")?;
-    let (mut link, text, answered) = asked(alloc, &mut gate, 19)?;
+    let (mut link, text, progress) = asked(alloc, &mut gate, 19)?;
     assert_eq!(rt; text.as_str(), "GET /a HTTP/1.1\r\n\r\n");
-    assert_eq!(rt; answered, 7);
+    assert_eq!(rt; progress.answered, 7);
+    assert_eq!(rt; progress.least, 9);
     assert!(rt; !link.reader.is_ready());
     client.write_all(b" HTTP/1.1\r\n\r\n")?;
     assert!(rt; link.reader.is_ready());
@@ -342,14 +359,14 @@ fn a_link_rests(rt: HostRuntime) -> Result<(), Fail> {
 fn a_link_rests_for_its_time(rt: HostRuntime) -> Result<(), Fail> {
     let alloc = rt.alloc();
     let (_network, mut gate, _client) = met(&rt, network_of(rt, 1000), b"GET / HTTP/1.1\r\n\r\n")?;
-    let (mut link, _text, _answered) = asked(alloc, &mut gate, 18)?;
+    let (mut link, _text, _progress) = asked(alloc, &mut gate, 18)?;
     send(&mut link.writer, b"x")?;
     assert!(rt; !link.reader.is_ready());
-    assert!(rt; gate.park(link.reader, link.writer, 1));
+    assert!(rt; gate.park(link.reader, link.writer, SECOND));
     // Its time is over: no request is to come.
-    let (link, text, answered) = asked(alloc, &mut gate, 18)?;
+    let (link, text, progress) = asked(alloc, &mut gate, 18)?;
     assert_eq!(rt; text.as_str(), "");
-    assert_eq!(rt; answered, 1);
+    assert_eq!(rt; progress.answered, 1);
     assert_eq!(rt; link.reader.faults, 0);
     gate.finish(link.reader, link.writer);
     Ok(())
@@ -366,19 +383,19 @@ fn a_peer_ends_behind_its_request(rt: HostRuntime) -> Result<(), Fail> {
     client.shutdown(Shutdown::Write)?;
     wait(&rt, 100);
     // Its end, which came with the request, isn't waited for.
-    let (mut link, _text, _answered) = asked(alloc, &mut gate, 18)?;
+    let (mut link, _text, _progress) = asked(alloc, &mut gate, 18)?;
     assert!(rt; link.reader.is_ready());
     assert_eq!(rt; link.reader.read(&mut [0u8; 1]), Ok(0));
     gate.finish(link.reader, link.writer);
     // Nor is one that comes while a worker has the link.
     let mut client = client_of(&rt, network.local_addr())?;
     client.write_all(b"GET / HTTP/1.1\r\n\r\n")?;
-    let (mut link, _text, _answered) = asked(alloc, &mut gate, 18)?;
+    let (mut link, _text, _progress) = asked(alloc, &mut gate, 18)?;
     client.shutdown(Shutdown::Write)?;
     wait(&rt, 100);
     assert!(rt; !link.reader.is_ready());
-    assert!(rt; gate.park(link.reader, link.writer, 1));
-    let (mut link, _text, _answered) = asked(alloc, &mut gate, 0)?;
+    assert!(rt; gate.park(link.reader, link.writer, SECOND));
+    let (mut link, _text, _progress) = asked(alloc, &mut gate, 0)?;
     assert_eq!(rt; link.reader.read(&mut [0u8; 1]), Ok(0));
     gate.finish(link.reader, link.writer);
     Ok(())
@@ -407,7 +424,7 @@ fn responses_to_requests_of_one_read_go_out_together(rt: HostRuntime) -> Result<
     let alloc = rt.alloc();
     let sent = b"GET /a HTTP/1.1\r\n\r\nGET /b HTTP/1.1\r\n\r\nGET /c HTTP/1.1\r\n\r\nGET /d";
     let (_network, mut gate, mut client) = met(&rt, TcpNetwork::new(rt, alloc), sent)?;
-    let (mut link, _text, _answered) = asked(alloc, &mut gate, 57)?;
+    let (mut link, _text, _progress) = asked(alloc, &mut gate, 57)?;
     for response in [b"one", b"two"] {
         assert_eq!(rt; link.writer.write(response), Ok(3));
         wait(&rt, 50);
@@ -439,7 +456,7 @@ fn many_responses_are_kept_up_to_a_limit(rt: HostRuntime) -> Result<(), Fail> {
     let alloc = rt.alloc();
     let sent = b"GET /a HTTP/1.1\r\n\r\nGET /b HTTP/1.1\r\n\r\nGET /c HTTP/1.1\r\n\r\n";
     let (_network, mut gate, mut client) = met(&rt, TcpNetwork::new(rt, alloc), sent)?;
-    let (mut link, _text, _answered) = asked(alloc, &mut gate, 57)?;
+    let (mut link, _text, _progress) = asked(alloc, &mut gate, 57)?;
     let large = vec![in alloc; b'l'; 40_000]?;
     assert_eq!(rt; link.writer.write(large.as_slice()), Ok(40_000));
     assert!(rt; is_silent(&mut client)?);

@@ -3,6 +3,7 @@ use Rattle.std.specs.Prelude.{ℕ, ◌+◌, Bool, true, false, List, [], ◌∷�
 use Rattle.am_outside.specs.declared.failure.Failed.{Failed}
 use Rattle.am_outside.specs.Memory.{one_more}
 use Rattle.am_network.specs.declared.memory_link.MemoryWriter.{MemoryWriter}
+use Rattle.am_network.specs.declared.progress.Progress.{Progress}
 use Rattle.am_network.specs.declared.resting_reader.RestingReader.{RestingReader}
 use Rattle.am_network.specs.Links.{GateView, Handed, IsNewGate, LinkView, Links, Stand}
 use Rattle.am_network.specs.Memory.{IsUnused}
@@ -48,12 +49,11 @@ link_view link = ends_view (link.reader, link.writer)
 
 -- a link that is parked, as clauses on any gate see it
 abbrev pub parked_view : ParkedLink → Stand
-parked_view parked = record { link = link_view parked.link; answered = parked.answered }
+parked_view parked = record { link = link_view parked.link; progress = parked.progress }
 
--- what a gate that parks links hands out: the two ends of a link, and how many of its frames were answered before if it
--- is handed out again
+-- what a gate that parks links hands out: the two ends of a link, and how far it was before if it is handed out again
 abbrev pub HandedEnds : Type 0
-HandedEnds = RestingReader × MemoryWriter × Option ℕ
+HandedEnds = RestingReader × MemoryWriter × Option Progress
 
 -- what it hands out, as clauses on any gate see it
 abbrev pub handed_view : HandedEnds → Handed
@@ -63,9 +63,9 @@ handed_view handed = record { link = ends_view (handed.0, handed.1); before = ha
 abbrev pub ends_first : ℕ → RestingPlan → HandedEnds
 ends_first number planned = ((ends_of number planned).0, (ends_of number planned).1, None)
 
--- the two ends of a parked link with its count, as it was parked
+-- the two ends of a parked link with its progress, as it was parked
 abbrev pub ends_again : ParkedLink → HandedEnds
-ends_again parked = (parked.link.reader, parked.link.writer, Some parked.answered)
+ends_again parked = (parked.link.reader, parked.link.writer, Some parked.progress)
 
 -- what a gate in memory that parks links holds: the links that were planned, how many of them were handed out, those
 -- that were ended, those that are parked in the order in which they came, the numbers of the calls for a link that fail,

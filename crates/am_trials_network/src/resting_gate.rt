@@ -6,7 +6,7 @@ ghost use Rattle.am_network.specs.Links.{HandsNext, HandsOut, IsUnreadAtFirst, M
 ghost use Rattle.am_trials_network.specs.Gates.{AreUnused, HasUnusedEnds, called_once, coming, counted, ends_again, ends_of, ends_view, handed_first, handed_next, handed_view, links_of, new_gate, next_of, with_ended, with_parked};
 
 use crate::resting_link::{ParkedLink, RestingLink, RestingPlan};
-use am_network::{Acceptor, MemoryReader, MemoryWriter, RestingReader};
+use am_network::{Acceptor, MemoryReader, MemoryWriter, Progress, RestingReader};
 use am_outside::{Failed, is_failing};
 use am_types::List;
 use std::alloc::{AllocError, Global};
@@ -144,16 +144,19 @@ impl RestingGate {
     }
 
     // Hands out the link that is parked the longest.
-    fn hand_again(&mut self) -> Option<(RestingReader, MemoryWriter, Option<u32>)>
+    fn hand_again(&mut self) -> Option<(RestingReader, MemoryWriter, Option<Progress>)>
         ensures exact { self.new ≡ record self.old { parked = drop 1 self.old.parked } }
         ensures answer { result ≡ option_map ends_again (slice_get self.old.parked 0) }
     {
-        let ParkedLink { link, answered } = self.parked.pop_front()?;
-        Some((link.reader, link.writer, Some(answered)))
+        let ParkedLink { link, progress } = self.parked.pop_front()?;
+        Some((link.reader, link.writer, Some(progress)))
     }
 
     // Hands out the next link for the first time, if new ones are taken, or else the one that is parked the longest.
-    fn hand_next(&mut self, takes_new: bool) -> Option<(RestingReader, MemoryWriter, Option<u32>)>
+    fn hand_next(
+        &mut self,
+        takes_new: bool,
+    ) -> Option<(RestingReader, MemoryWriter, Option<Progress>)>
         ensures exact { self.new ≡ handed_next self.old (coming takes_new self.old) }
         ensures answer { result ≡ next_of self.old.handed (coming takes_new self.old) self.old.parked }
         ensures unused { IfSome (coming takes_new self.old) HasUnusedEnds }
@@ -209,7 +212,7 @@ impl Acceptor for RestingGate {
     fn next_link(
         &mut self,
         takes_new: bool,
-    ) -> Result<Option<(RestingReader, MemoryWriter, Option<u32>)>, Failed>
+    ) -> Result<Option<(RestingReader, MemoryWriter, Option<Progress>)>, Failed>
         ensures exact { OnOk result (self.new
             ≡ handed_next (called_once self.old) (coming takes_new self.old)) }
         ensures none { OnErr result (self.new ≡ counted self.old result) }
@@ -228,17 +231,17 @@ impl Acceptor for RestingGate {
         Ok(self.hand_next(takes_new))
     }
 
-    fn park(&mut self, reader: RestingReader, writer: MemoryWriter, answered: u32) -> bool
+    fn park(&mut self, reader: RestingReader, writer: MemoryWriter, progress: Progress) -> bool
         requires { MayTakeBack (Some (links_of self.old)) (ends_view (reader, writer)) }
         ensures exact { self.new ≡ with_parked self.old
-            (record { link = record { reader = reader; writer = writer }; answered = answered }) }
+            (record { link = record { reader = reader; writer = writer }; progress = progress }) }
         ensures parks { result ≡ true }
         ensures aside { Some (links_of self.new) ≡ set_aside (Some (links_of self.old))
-            (record { link = ends_view (reader, writer); answered = answered }) }
+            (record { link = ends_view (reader, writer); progress = progress }) }
     {
         let link = RestingLink { reader, writer };
         self.parked
-            .push_back_reserved(ParkedLink { link, answered });
+            .push_back_reserved(ParkedLink { link, progress });
         true
     }
 }

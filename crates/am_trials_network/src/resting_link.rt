@@ -1,6 +1,6 @@
 //! The links of a gate in memory that parks links.
 
-use am_network::{MemoryWriter, RestingReader};
+use am_network::{MemoryWriter, Progress, RestingReader};
 use am_outside::{MemorySink, MemorySource};
 use am_types::List;
 
@@ -29,6 +29,6 @@ pub struct RestingLink {
 pub struct ParkedLink {
     /// Its two ends, as they came back.
     pub link: RestingLink,
-    /// How many of its frames were answered so far.
-    pub answered: u32,
+    /// How far it is.
+    pub progress: Progress,
 }

@@ -4,7 +4,7 @@ ghost use Rattle.std.specs.Io.{ReadsAtMost};
 ghost use Rattle.am_network.specs.Links.{IsNewGate};
 
 use crate::servings::try_head;
-use am_network::{Acceptor, ListenFail, Network};
+use am_network::{Acceptor, ListenFail, Network, Progress};
 use am_outside::{Failed, MemorySink, MemorySource, Sink, Source};
 use am_trials_runs::{QUIET, Runtime, sink, source, store};
 use std::alloc::Global;
@@ -206,7 +206,7 @@ impl Acceptor for Gate {
     fn next_link(
         &mut self,
         takes_new: bool,
-    ) -> Result<Option<(Reader, Writer, Option<u32>)>, Failed> {
+    ) -> Result<Option<(Reader, Writer, Option<Progress>)>, Failed> {
         if !takes_new {
             return Ok(None);
         }
@@ -219,7 +219,7 @@ impl Acceptor for Gate {
         }
     }
 
-    fn park(&mut self, reader: Reader, writer: Writer, _answered: u32) -> bool {
+    fn park(&mut self, reader: Reader, writer: Writer, _progress: Progress) -> bool {
         drop(reader);
         self.ended = Some(writer);
         self.faults = self.faults.saturating_add(1);

@@ -1,5 +1,5 @@
 -- The workers of a shared manager, from the making of its desks to their closing.
-use Rattle.std.proofs.Common.{◌≡◌, ℕ, zero, suc, ◌+◌, ◌≤◌, ◌<◌, List, [], ◌∷◌, ◌++◌, take, refl, length, map, min, Option, Some, None, sym, ap, ◌∙◌, subst, arith, slice_get}
+use Rattle.std.proofs.Common.{◌≡◌, ℕ, zero, suc, ◌+◌, ◌≤◌, ◌<◌, true, List, [], ◌∷◌, ◌++◌, take, refl, length, map, min, Option, Some, None, sym, ap, ◌∙◌, subst, arith, slice_get}
 use Rattle.std.specs.Prelude.{All, IfSome, slice_index_or, sum_by}
 use Rattle.std.specs.List.{AllByRecursion, AllZip, list_any}
 use Rattle.std.proofs.lemmas.List.{length-map}
@@ -39,10 +39,15 @@ back_written zero (x ∷ xs) items long = absurd (omega (arith, long))
 back_written (suc n) [] items long = absurd (omega (arith, long))
 back_written (suc n) (x ∷ xs) items long = ap (λ ys. x ∷ ys) (back_written n xs items (omega (arith, long)))
 
--- a worker as clauses see it
+-- a worker whose desk waits, as clauses see it
 abbrev pub view : {G C : Type 0} → (G → Option Links) → (G → ℕ) → (C → Moments) → Worker DeskView G C → WorkerView
 view links faults moments w =
-    record { desk = w.desk; gate = record { links = links w.gate; faults = faults w.gate }; clock = moments w.clock }
+    record {
+      desk = w.desk;
+      waits = true;
+      gate = record { links = links w.gate; faults = faults w.gate };
+      clock = moments w.clock;
+    }
 
 -- the gates are new
 abbrev pub AreNewGates : {G : Type 0} → (G → Option Links) → (G → ℕ) → List G → Type 0
@@ -190,6 +195,7 @@ serves {G} {C} links faults moments most count origin sharing history out olds n
           (λ gate. IsNewGate (record { links = links gate; faults = faults gate })) olds gates of_gates new_gates i
           other within,
       clocks i other within,
+      refl,
     )) in
     let P : DeskView → Type 0 = λ (d : DeskView). Extends d.seen out
     × (entries_of d.number out ≡ entries_of d.number d.seen) in

@@ -1,5 +1,5 @@
 -- What all workers did together, over the history of the manager that they shared.
-use Rattle.std.proofs.Common.{◌≡◌, ℕ, zero, suc, ◌+◌, ◌≤◌, ◌<◌, Bool, true, false, ◌||◌, List, [], ◌∷◌, ◌++◌, length, drop, map, min, Option, Some, None, refl, sym, ap, ◌∙◌, subst, inl, inr, arith, length-append, slice_get}
+use Rattle.std.proofs.Common.{◌≡◌, ℕ, zero, suc, ◌+◌, ◌≤◌, ◌<◌, Bool, true, false, IsTrue, ◌||◌, List, [], ◌∷◌, ◌++◌, length, drop, map, min, Option, Some, None, refl, sym, ap, ◌∙◌, subst, inl, inr, arith, length-append, slice_get}
 use Rattle.std.specs.Prelude.{All, IfSome, ◌==◌, cond, sum_by, slice_index_or, unwrap_or}
 use Rattle.std.specs.List.{AllByRecursion, AllZip, list_any}
 use Rattle.std.proofs.lemmas.List.{get_or-map, length-map}
@@ -92,11 +92,12 @@ risen_by true most faults count services links gate ends is =
     let e = ends.0 in let more = faults_stay faults services in omega (arith, e, more)
 risen_by false most faults count services links gate ends is = absurd (let x = is in cc)
 
--- what a worker begins with: the desk that was made with that number, a new gate, and a clock that tells what this one
--- tells
+-- what a worker begins with: the desk that was made with that number and waits, a new gate, and a clock that tells what
+-- this one tells
 abbrev pub BeginsAt : Origin → Sharing → Moments → ℕ → WorkerView → Type 0
 BeginsAt origin sharing clock k worker =
     (worker.desk ≡ new_desk origin sharing k) × IsNewGate worker.gate × ((calls : ℕ) → worker.clock calls ≡ clock calls)
+    × IsTrue worker.waits
 
 -- the worker of a desk that was made with that number, over the history of the whole
 pub gate_served : (most : Option ℕ) (origin : Origin) (sharing : Sharing) (clock : Moments) (k : ℕ) (ended : Ended)
@@ -122,6 +123,7 @@ gate_served most origin sharing clock k ended old new worked begins w grows own 
       worked = worked_stays (opening_of origin) (length sharing.handed) k new.desk.seen ended.history w.services floored
           grows
           (subst (λ n. entries_of n ended.history ≡ entries_of n new.desk.seen) number own) there;
+      in_order = w.has.in_order begins.3;
       links = whole_gate old.gate.links w.links w.services is_new.1 w.has.links;
       few = w.few;
       told = new.clock;

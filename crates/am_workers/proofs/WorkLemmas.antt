@@ -1,5 +1,5 @@
 -- How a worker serves one more link, and what holds of its links over a longer history.
-use Rattle.std.proofs.Common.{◌≡◌, ℕ, zero, suc, ◌+◌, ◌≤◌, ◌<◌, Bool, true, false, List, [], ◌∷◌, ◌++◌, length, drop, Option, Some, None, Ok, Err, refl, sym, ap, ◌∙◌, subst, inl, inr, arith, length-append, append-nil}
+use Rattle.std.proofs.Common.{◌≡◌, ℕ, zero, suc, ◌+◌, ◌≤◌, ◌<◌, Bool, true, false, IsTrue, List, [], ◌∷◌, ◌++◌, length, drop, Option, Some, None, Ok, Err, refl, sym, ap, ◌∙◌, subst, inl, inr, arith, length-append, append-nil}
 use Rattle.std.specs.Prelude.{IfSome, ◌-◌, ◌↔◌, min, if◌then◌else◌}
 use Rattle.std.specs.List.{AllByRecursion}
 use Rattle.std.specs.Option.{option_to_list}
@@ -8,11 +8,12 @@ use Rattle.am_types.specs.declared.history.Entry.{Entry}
 use Rattle.am_outside.specs.declared.failure.Failed.{Failed}
 use Rattle.am_outside.specs.Counts.{HasRisen}
 use Rattle.am_outside.specs.Memory.{one_more}
+use Rattle.am_network.specs.declared.progress.Progress.{Progress}
 use Rattle.am_network.specs.Links.{AreBack, GateView, Handed, HandsNext, HandsOn, HasOneMark, IsDone, LinkView, Links, MayTakeBack, Parks, Stand, failed, firsts, parking_counted, set_aside, taken_back}
 use Rattle.am_history.specs.State.{State}
 use Rattle.am_history.specs.Desks.{DeskView, IsSameDesk, opening_of, start_of}
 use Rattle.am_history.specs.History.{Extends, IsLegal, entries_of}
-use Rattle.am_http.specs.Exchanges.{AreAnswered, AreInOrder, Exchange, IsAbove, IsAnswer, Point, entry_at, floor_after, floor_of, frames_of, moments_of, stored_entries}
+use Rattle.am_http.specs.Exchanges.{AreAnswered, AreInOrder, Exchange, IsAbove, IsAnswer, Point, RaisesAlong, entry_at, floor_after, floor_of, frames_of, moments_of, stored_entries}
 use Rattle.am_http.specs.Frames.{Leaves}
 use Rattle.am_http.specs.declared.end.End.{End}
 use Rattle.am_http.specs.declared.end.End.TheVariants.{Idle, ReadFault, WriteFault}
@@ -20,7 +21,7 @@ use Rattle.am_http.specs.declared.end.Served.{Served}
 use Rattle.am_http.specs.Links.{Gives, GoesOn, Link}
 use Rattle.am_http.specs.Sessions.{GivesAtMost, HasFault, Visit, VisitEnds, Writes, most_frames, most_taken}
 use Rattle.am_http.proofs.ExchangeLemmas.{all_more, answers_stay, entries_of-append, extends_refl, extends_trans, same_view, stored_entries_stay}
-use Rattle.am_workers.specs.Work.{AreOfGate, HasCause, HasServed, IsBack, IsCounted, IsServed, IsWorked, Service, ServesNext, TakesNew, TellsShort, TriesNext, WorkerView, Works, answered_before, ended_in, exchanges_of, faults_after, frames_left, given_back, moments_of_all, new_in}
+use Rattle.am_workers.specs.Work.{AreOfGate, HasCause, HasServed, IsBack, IsCounted, IsInOrder, IsServed, IsWorked, Service, ServesNext, TakesNew, TellsShort, TriesNext, WorkerView, Works, answered_before, ended_in, exchanges_of, faults_after, frames_left, given_back, least_before, moments_of_all, new_in, progress_before}
 use Rattle.am_workers.specs.declared.working.Turn.{Turn}
 use Rattle.am_workers.proofs.ClockLemmas.{gives_trans, gives_still}
 
@@ -221,7 +222,7 @@ faults_stay faults (s ∷ ss) = by s.refused (faults_stay (if s.refused then one
     by false rest = rest
 
 -- of one link at most one is new
-firsts_few : (before : Option ℕ) → firsts before ≤ 1
+firsts_few : (before : Option Progress) → firsts before ≤ 1
 firsts_few None = omega arith
 firsts_few (Some count) = omega arith
 
@@ -232,6 +233,7 @@ served_none worker =
       desk = record { desk = record { origin = refl; number = refl; sharing = refl }; legal = λ h. h };
       grows = extends_refl worker.desk.seen;
       worked = worked_none (start_of worker.desk) worker.desk.number worker.desk.seen;
+      in_order = λ waits. tt;
       links = refl;
       moments = λ calls. refl;
       faults = omega arith;
@@ -250,6 +252,7 @@ served_same first old new services has desk clock faults =
       desk = subst P (sym desk) has.desk;
       grows = subst Q (sym desk) has.grows;
       worked = subst R (sym desk) has.worked;
+      in_order = has.in_order;
       links = has.links;
       moments = gives_still first.clock (moments_of_all services) old.clock new.clock has.moments clock;
       faults = omega (arith, has.faults, faults);
@@ -284,8 +287,9 @@ pub served_more : (first old new : WorkerView) (services : List Service) (servic
     → HasServed first old services
     → GoesOn old.desk new.desk → AreAnswered old.desk new.desk service.exchanges → IsServed service
     → AreOfGate old.gate.links new.gate.links (service ∷ []) → Gives old.clock (moments_of service.exchanges) new.clock
-    → old.gate.faults ≤ new.gate.faults → HasServed first new (services ++ service ∷ [])
-served_more first old new services service has goes answers served links moments faults =
+    → old.gate.faults ≤ new.gate.faults → (IsTrue first.waits → IsInOrder service)
+    → HasServed first new (services ++ service ∷ [])
+served_more first old new services service has goes answers served links moments faults in_order =
     let there = answered_as first.desk old.desk new.desk service.exchanges has.desk.desk answers in
     let added = there.grows.0 in
     let is_new : new.desk.seen ≡ old.desk.seen ++ added = there.grows.1 in
@@ -304,6 +308,7 @@ served_more first old new services service has goes answers served links moments
       worked = subst S (sym is_new)
           (worked_more start floor number old.desk.seen added services service floored has.worked served
           (subst P is_new there.answers) there.in_order (subst Q is_new there.floor) (subst R is_new there.own));
+      in_order = λ waits. all_more IsInOrder services service (has.in_order waits) (in_order waits);
       links = of_gate_more first.gate.links old.gate.links new.gate.links services service has.links links;
       moments = subst (λ ms. Gives first.clock ms new.clock) (sym (moments_more services service))
           (gives_trans first.clock (moments_of_all services) old.clock (moments_of service.exchanges) new.clock
@@ -399,17 +404,26 @@ link_served handed first last before after served parked refused visit is fault 
       refused = refuses;
     }
 
--- its gate has it back: parked, with the count of its frames, or ended
-given : (handed : Handed) (mid new : Option Links) (first last : Link) (after : ℕ) (served : Served)
+-- its gate has it back: parked, with how far it is, or ended
+given : (handed : Handed) (mid new : Option Links) (first last : Link) (after least : ℕ) (served : Served)
     (parked refused : Bool) (visit : Visit (frames_left handed) first last served)
+    → least ≡ floor_of (least_before handed) visit.exchanges
     → (parked ≡ true → served.end ≡ Idle)
     → Parks parked mid new
-    (record { link = view_of last after; answered = answered_before handed + served.answered })
+    (record {
+      link = view_of last after;
+      progress = record { answered = answered_before handed + served.answered; least = least };
+    })
     → new ≡ given_back mid (served_as handed first last after served visit parked refused)
-given handed mid new first last after served true refused visit idle back =
+given handed mid new first last after least served true refused visit floor idle back =
     let count = (idle_below (frames_left handed) first last served visit (idle refl)).0 in
-    back ∙ ap (λ n. set_aside mid (record { link = view_of last after; answered = answered_before handed + n })) count
-given handed mid new first last after served false refused visit idle back = back
+    let at : ℕ → ℕ → Option Links = λ n l. set_aside mid
+    (record {
+      link = view_of last after;
+      progress = record { answered = answered_before handed + n; least = l };
+    }) in
+    back ∙ (ap (λ n. at n least) count ∙ ap (at (length visit.exchanges)) floor)
+given handed mid new first last after least served false refused visit floor idle back = back
 
 -- so many links ended by that
 ended_one : (parked : Bool) (ended : ℕ) → ended ≡ (if parked then 0 else 1) → ended ≡ (if parked then 0 else 1) + 0
@@ -470,18 +484,24 @@ back_by_finish end old new stand ended other links faults many =
     }
 
 -- a connection over a link that was handed out and is back
-pub serves_link : (takes_new : Bool) (handed : Handed) (old : Option Links) (mid new : GateView) (first last : Link)
-    (before after : ℕ) (served : Served) (turn : Turn) (visit : Visit (frames_left handed) first last served)
+pub serves_link : (waits takes_new : Bool) (handed : Handed) (old : Option Links) (mid new : GateView)
+    (first last : Link) (before after least : ℕ) (served : Served) (turn : Turn)
+    (visit : Visit (frames_left handed) first last served)
+    → RaisesAlong waits (least_before handed) least visit.exchanges
     → handed.link ≡ view_of first before → HasFault served.end first last → (served.end ≡ Idle → HasRisen before after)
     → HandsNext takes_new old mid.links (Some handed)
     → IsBack served.end mid new
-    (record { link = view_of last after; answered = answered_before handed + served.answered }) turn.ended
+    (record {
+      link = view_of last after;
+      progress = record { answered = answered_before handed + served.answered; least = least };
+    }) turn.ended
     → turn.taken ≡ firsts handed.before
     → (service : Service) × AreAnswered first.server.desk last.server.desk service.exchanges × IsServed service
     × AreOfGate old new.links (service ∷ [])
     × Gives first.server.clock (moments_of service.exchanges) last.server.clock
-    × IsCounted takes_new mid.faults new.faults turn service
-serves_link takes_new handed old mid new first last before after served turn visit is fault rests out back taken =
+    × IsCounted takes_new mid.faults new.faults turn service × (IsTrue waits → IsInOrder service)
+serves_link waits takes_new handed old mid new first last before after least served turn visit raised is fault rests out
+    back taken =
     let service = served_as handed first last after served visit back.parked back.refused in (
       service,
       visit.answers,
@@ -490,37 +510,54 @@ serves_link takes_new handed old mid new first last before after served turn vis
       (
         mid.links,
         out.0,
-        given handed mid.links new.links first last after served back.parked back.refused visit back.rests back.links,
+        given handed mid.links new.links first last after least served back.parked back.refused visit raised.1
+            back.rests back.links,
       ),
       visit.moments,
       counted takes_new mid.faults new.faults turn service back.faults taken out.1 back.many,
+      raised.0,
     )
 
--- the same, where the frames before were counted, and the gate was so before it handed the link out
-pub serves_counted : (takes_new : Bool) (handed : Handed) (old mid new : GateView) (first last : Link)
-    (before after count : ℕ) (served : Served) (turn : Turn) → count ≡ answered_before handed
-    → Visit (most_frames - count) first last served
+-- a connection over a link that was so far
+abbrev pub VisitsFrom : Bool → Progress → ℕ → (first last : Link) → Served → Type 0
+VisitsFrom waits progress least first last served =
+    (visit : Visit (most_frames - progress.answered) first last served)
+    × RaisesAlong waits progress.least least visit.exchanges
+
+-- the same, where it is told how far the link was, and the gate was so before it handed the link out
+pub serves_counted : (waits takes_new : Bool) (handed : Handed) (old mid new : GateView) (first last : Link)
+    (before after least : ℕ) (progress : Progress) (served : Served) (turn : Turn) → progress ≡ progress_before handed
+    → VisitsFrom waits progress least first last served
     → handed.link ≡ view_of first before → HasFault served.end first last → (served.end ≡ Idle → HasRisen before after)
     → HandsNext takes_new old.links mid.links (Some handed) → mid.faults ≡ old.faults
-    → IsBack served.end mid new (record { link = view_of last after; answered = count + served.answered }) turn.ended
+    → IsBack served.end mid new
+    (record {
+      link = view_of last after;
+      progress = record { answered = progress.answered + served.answered; least = least };
+    }) turn.ended
     → turn.taken ≡ firsts handed.before
     → (service : Service) × AreAnswered first.server.desk last.server.desk service.exchanges × IsServed service
     × AreOfGate old.links new.links (service ∷ [])
     × Gives first.server.clock (moments_of service.exchanges) last.server.clock
-    × IsCounted takes_new old.faults new.faults turn service
-serves_counted takes_new handed old mid new first last before after count served turn same visit is fault rests out
-    calm back taken =
-    let V : ℕ → Type 0 = λ (n : ℕ). Visit (most_frames - n) first last served in
-    let B : ℕ → Type 0 = λ (n : ℕ). IsBack served.end mid new
-    (record { link = view_of last after; answered = n + served.answered }) turn.ended in
-    let all = serves_link takes_new handed old.links mid new first last before after served turn (subst V same visit) is
-    fault rests out (subst B same back) taken in (
+    × IsCounted takes_new old.faults new.faults turn service × (IsTrue waits → IsInOrder service)
+serves_counted waits takes_new handed old mid new first last before after least progress served turn same visit is fault
+    rests out calm back taken =
+    let V : Progress → Type 0 = λ (p : Progress). VisitsFrom waits p least first last served in
+    let B : Progress → Type 0 = λ (p : Progress). IsBack served.end mid new
+    (record {
+      link = view_of last after;
+      progress = record { answered = p.answered + served.answered; least = least };
+    }) turn.ended in
+    let there : VisitsFrom waits (progress_before handed) least first last served = subst V same visit in
+    let all = serves_link waits takes_new handed old.links mid new first last before after least served turn there.0
+    there.1 is fault rests out (subst B same back) taken in (
       all.0,
       all.1,
       all.2,
       all.3,
       all.4,
       subst (λ (n : ℕ). IsCounted takes_new n new.faults turn all.0) calm all.5,
+      all.6,
     )
 
 -- while a link is out, all others are back
@@ -618,8 +655,9 @@ pub record ServedMore (takes_new : Bool) (first new : WorkerView) (services : Li
 pub one_more_served : (takes_new : Bool) (first old new : WorkerView) (services : List Service) (next : Option Turn)
     (turn : Turn) → next ≡ Some turn → HasServed first old services
     → old.gate.faults ≡ faults_after first.gate.faults services → ServesNext takes_new old new next
-    → GoesOn old.desk new.desk → old.gate.faults ≤ new.gate.faults → ServedMore takes_new first new services turn
-one_more_served takes_new first old new services next turn is has calm serves goes never_falls =
+    → GoesOn old.desk new.desk → old.gate.faults ≤ new.gate.faults → old.waits ≡ first.waits
+    → ServedMore takes_new first new services turn
+one_more_served takes_new first old new services next turn is has calm serves goes never_falls same_waits =
     let P : Option Turn → Type 0 = λ (o : Option Turn). ServesNext takes_new old new o in
     let there : ServesNext takes_new old new (Some turn) = subst P is serves in
     let service = there.0 in
@@ -627,7 +665,8 @@ one_more_served takes_new first old new services next turn is has calm serves go
     let taken = counts.taken in
     record {
       all = services ++ service ∷ [];
-      has = served_more first old new services service has goes there.1 there.2 there.3 there.4 never_falls;
+      has = served_more first old new services service has goes there.1 there.2 there.3 there.4 never_falls
+          (subst (λ (b : Bool). IsTrue b → IsInOrder service) same_waits there.6);
       faults = counts.faults ∙ ap (λ n. faults_after n (service ∷ [])) calm
           ∙ sym (faults_more first.gate.faults services service);
       taken = new_more services service ∙ ap (λ n. new_in services + n) (sym taken);

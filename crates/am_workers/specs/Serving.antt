@@ -11,7 +11,7 @@ use Rattle.am_history.specs.Steps.{is_formed}
 use Rattle.am_baton.specs.Shared.{IsNumbered}
 use Rattle.am_http.specs.Links.{Gives, Moments}
 use Rattle.am_workers.specs.declared.working.Worked.{Worked}
-use Rattle.am_workers.specs.Work.{AreOfGate, EndsSo, IsWorked, Service, ended_in, faults_after, moments_of_all, new_in}
+use Rattle.am_workers.specs.Work.{AreOfGate, EndsSo, IsInOrder, IsWorked, Service, ended_in, faults_after, moments_of_all, new_in}
 
 -- a network as clauses see it: what it was asked for last, if it tells that, how often it was asked, and its two counts
 -- of faults
@@ -81,10 +81,12 @@ AreAllLinks links services =
     services
 
 -- the worker of that number served the links of its gate over the history, which are all that the gate handed out, of
--- which at most so many were new. The moments of their calls are those of the serving's clock, one after the other from
--- the first. It stopped when no link was to come, or since a call of its gate failed
+-- which at most so many were new. Along each link places are in order from where its last visit ended. The moments of their
+-- calls are those of the serving's clock, one after the other from the first. It stopped when no link was to come, or since
+-- a call of its gate failed
 pub record IsGateServed (most : Option ℕ) (begun : Begun) (ended : Ended) (number : ℕ) (work : Gatework) : Type 0 where
   pub worked : IsWorked (opening_of begun.origin) (length begun.history) number ended.history work.services
+  pub in_order : AllByRecursion IsInOrder work.services
   pub links : IfSome work.links (λ links. AreAllLinks links work.services)
   pub few : IfSome most (λ m. new_in work.services ≤ m)
   pub told : Moments

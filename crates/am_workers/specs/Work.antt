@@ -1,5 +1,5 @@
 -- What a worker does: it serves the links of its gate, one after the other, on its desk, and parks those that are idle.
-use Rattle.std.specs.Prelude.{◌≡◌, ℕ, ◌+◌, ◌-◌, ◌≤◌, ◌<◌, ◌↔◌, Bool, true, false, if◌then◌else◌, List, [], ◌∷◌, length, drop, min, Option, Some, None, IfSome, unwrap_or, ⊤, Err, Ok, Result}
+use Rattle.std.specs.Prelude.{◌≡◌, ℕ, ◌+◌, ◌-◌, ◌≤◌, ◌<◌, ◌↔◌, Bool, true, false, IsTrue, if◌then◌else◌, List, [], ◌∷◌, length, drop, min, Option, Some, None, IfSome, unwrap_or, ⊤, Err, Ok, Result}
 use Rattle.std.specs.List.{flat_map, AllByRecursion}
 use Rattle.am_types.specs.declared.history.Entry.{Entry}
 use Rattle.am_outside.specs.Counts.{HasRisen}
@@ -7,6 +7,7 @@ use Rattle.am_outside.specs.Memory.{one_more}
 use Rattle.am_outside.specs.declared.clock.Clock.{Ghosts as ClockGhosts}
 use Rattle.am_outside.specs.declared.failure.Failed.{Failed}
 use Rattle.am_network.specs.declared.network.Acceptor.{Ghosts as AcceptorGhosts}
+use Rattle.am_network.specs.declared.progress.Progress.{Progress}
 use Rattle.am_network.specs.Links.{GateView, Handed, HandsOn, IsDone, LinkView, Links, Parks, Stand, failed, firsts, set_aside, taken_back}
 use Rattle.am_desk.specs.declared.Desk.{Ghosts as DeskGhosts}
 use Rattle.am_history.specs.State.{State}
@@ -31,9 +32,17 @@ pub record Service : Type 0 where
   pub parked : Bool
   pub refused : Bool
 
--- how many frames of a link were answered before it was handed out
+-- how far a link was before it was handed out
+abbrev pub progress_before : Handed → Progress
+progress_before handed = unwrap_or handed.before (record { answered = 0; least = 0 })
+
+-- how many of its frames were answered before
 abbrev pub answered_before : Handed → ℕ
-answered_before handed = unwrap_or handed.before 0
+answered_before handed = (progress_before handed).answered
+
+-- the least place that its next answer may have
+abbrev pub least_before : Handed → ℕ
+least_before handed = (progress_before handed).least
 
 -- how many frames of a link may still be answered
 abbrev pub frames_left : Handed → ℕ
@@ -66,6 +75,17 @@ pub record IsServed (service : Service) : Type 0 where
   pub parked : service.parked ≡ true → how.end ≡ Idle
   pub refused : (service.refused ≡ true) ↔ ((how.end ≡ Idle) × (service.parked ≡ false))
 
+-- along the link's exchanges places are in order, from the least place on with which it was handed out
+abbrev pub IsInOrder : Service → Type 0
+IsInOrder service = AreInOrder (least_before service.first) service.exchanges
+
+-- how far the link is after that
+abbrev pub progress_after : Service → Progress
+progress_after service = record {
+  answered = answered_before service.first + length service.exchanges;
+  least = floor_of (least_before service.first) service.exchanges;
+}
+
 -- how many of the links were handed out for the first time
 abbrev pub new_in : List Service → ℕ
 new_in [] = 0
@@ -95,12 +115,11 @@ pub record IsWorked (start : State) (floor number : ℕ) (history : List Entry) 
   pub within : floor_of floor (exchanges_of services) ≤ length history
   pub own : entries_of number (drop floor history) ≡ stored_entries history (exchanges_of services)
 
--- the gate once it has the link of the service back: parked, with the count of its frames that were answered, or ended
+-- the gate once it has the link of the service back: parked, with how far it is, or ended
 abbrev pub given_back : Option Links → Service → Option Links
 given_back links service =
     if service.parked
-    then set_aside links
-    (record { link = service.last; answered = answered_before service.first + length service.exchanges })
+    then set_aside links (record { link = service.last; progress = progress_after service })
     else taken_back links service.last
 
 -- a gate that was so handed out these links, one after the other, each for the first time or as it was parked, and had
@@ -118,21 +137,26 @@ moments_of_all services = moments_of (exchanges_of services)
 abbrev pub gate_of : {A R W : Type 0} → AcceptorGhosts A R W → A → GateView
 gate_of g gate = record { links = g.links gate; faults = g.faults gate }
 
--- a worker: its desk, its gate, and the moments that its clock will answer, if it tells them
+-- a worker: its desk, whether its calls wait for the least place, its gate, and the moments that its clock will answer, if
+-- it tells them
 pub record WorkerView : Type 0 where
   pub desk : DeskView
+  pub waits : Bool
   pub gate : GateView
   pub clock : Moments
 
 abbrev pub worker_of : {D A R W C : Type 0} → DeskGhosts D → AcceptorGhosts A R W → ClockGhosts C → D → A → C
     → WorkerView
-worker_of d a c desk gate clock = record { desk = d.view desk; gate = gate_of a gate; clock = c.moments clock }
+worker_of d a c desk gate clock =
+    record { desk = d.view desk; waits = d.waits; gate = gate_of a gate; clock = c.moments clock }
 
--- a worker served these links: the moments of their calls are those that its clock answered, one after the other
+-- a worker served these links: the moments of their calls are those that its clock answered, one after the other. If its
+-- desk waits, the places along each link are in order from where its last visit ended
 pub record HasServed (old new : WorkerView) (services : List Service) : Type 0 where
   pub desk : GoesOn old.desk new.desk
   pub grows : Extends old.desk.seen new.desk.seen
   pub worked : IsWorked (start_of old.desk) (length old.desk.seen) old.desk.number new.desk.seen services
+  pub in_order : IsTrue old.waits → AllByRecursion IsInOrder services
   pub links : AreOfGate old.gate.links new.gate.links services
   pub moments : Gives old.clock (moments_of_all services) new.clock
   pub faults : old.gate.faults ≤ new.gate.faults
@@ -194,7 +218,7 @@ abbrev pub ServesNext : Bool → WorkerView → WorkerView → Option Turn → T
 ServesNext takes_new old new (Some turn) =
     (service : Service) × AreAnswered old.desk new.desk service.exchanges × IsServed service
     × AreOfGate old.gate.links new.gate.links (service ∷ []) × Gives old.clock (moments_of service.exchanges) new.clock
-    × IsCounted takes_new old.gate.faults new.gate.faults turn service
+    × IsCounted takes_new old.gate.faults new.gate.faults turn service × (IsTrue old.waits → IsInOrder service)
 ServesNext takes_new old new None =
     (new.desk ≡ old.desk) × (new.gate.links ≡ old.gate.links) × IfSome old.gate.links (IsDone takes_new)
     × Gives old.clock [] new.clock × (new.gate.faults ≡ old.gate.faults)

@@ -7,7 +7,7 @@ ghost use Rattle.am_workers.specs.Work.{IsBack, TellsShort, TriesNext, Works, ga
 
 use am_desk::Desk;
 use am_http::{Buffers, End, Served, serve_link};
-use am_network::Acceptor;
+use am_network::{Acceptor, Progress};
 use am_outside::{Clock, Failed};
 use std::alloc::Global;
 use std::sync::Wait;
@@ -28,28 +28,36 @@ pub struct Turn {
     pub ended: u64,
 }
 
-// Hands a link back to the gate, of which so many frames were answered before it was served so: parked if it is idle and
-// the gate parks it, else ended. Answers how many links ended by that, which is none or one.
+// Hands a link back to the gate, of which so many frames were answered before it was served so, and whose further answers
+// have that least place: parked if it is idle and the gate parks it, else ended. Answers how many links ended by that,
+// which is none or one.
 fn hand_back<A: Acceptor>(
     gate: &mut A,
     reader: A::Reader,
     writer: A::Writer,
-    before: u32,
+    progress: Progress,
     served: Served,
 ) -> u64
     requires may { MayTakeBack (A.links gate.old) (link_of A.Reader.Source A.Writer.Sink reader writer) }
-    requires few { served.end ≡ End.Idle → before + served.answered ≤ most_frames }
+    requires few { served.end ≡ End.Idle → progress.answered + served.answered ≤ most_frames }
     ensures back { IsBack served.end (gate_of A.Acceptor gate.old) (gate_of A.Acceptor gate.new)
         (record {
           link = link_of A.Reader.Source A.Writer.Sink reader writer;
-          answered = before + served.answered;
+          progress = record {
+            answered = progress.answered + served.answered;
+            least = progress.least;
+          };
         })
         result }
     ensures never_falls { A.faults gate.old ≤ A.faults gate.new }
 {
     match served.end {
         End::Idle => {
-            if gate.park(reader, writer, before + served.answered) {
+            let progress = Progress {
+                answered: progress.answered + served.answered,
+                least: progress.least,
+            };
+            if gate.park(reader, writer, progress) {
                 0
             } else {
                 1
@@ -62,8 +70,8 @@ fn hand_back<A: Acceptor>(
     }
 }
 
-// How many links are taken for the first time by one of which so many frames were answered before.
-fn count_first(before: Option<u32>) -> u64
+// How many links are taken for the first time by one that was so far before.
+fn count_first(before: Option<Progress>) -> u64
     ensures { result ≡ firsts before }
 {
     match before {
@@ -94,7 +102,10 @@ fn serve_next<D: Desk, A: Acceptor, C: Clock>(
         return Ok(None);
     };
     let taken = count_first(before);
-    let answered = before.unwrap_or(0);
+    let mut progress = before.unwrap_or(Progress {
+        answered: 0,
+        least: 0,
+    });
     let served = serve_link(
         alloc,
         desk,
@@ -102,17 +113,19 @@ fn serve_next<D: Desk, A: Acceptor, C: Clock>(
         &mut writer,
         clock,
         buffers,
-        answered,
+        progress.answered,
+        &mut progress.least,
         true,
     );
-    let ended = hand_back(gate, reader, writer, answered, served);
+    let ended = hand_back(gate, reader, writer, progress, served);
     Ok(Some(Turn { taken, ended }))
 }
 
 /// Serves the links of a gate on a desk, one after the other, and hands each back to the gate once its connection has
 /// ended, or parks it while it is idle, until no link is to come or the gate fails. A link that was parked is served
-/// further when the gate hands it out again. Once it took as many links as are asked for, which are at least 1, it takes
-/// no new one, and works until those have ended. It waits for the links, and its calls for those of other desks.
+/// further when the gate hands it out again, and if the desk waits, its places go on from there. Once it took as many
+/// links as are asked for, which are at least 1, it takes no new one, and works until those have ended. It waits for the
+/// links, and its calls for those of other desks.
 pub fn work<R: Wait, D: Desk, A: Acceptor, C: Clock>(
     rt: &R,
     alloc: Global,

@@ -15,7 +15,7 @@ struct Exhausted {
 }
 
 impl Desk for Exhausted {
-    ghost use Rattle.std.specs.Prelude.{[], None};
+    ghost use Rattle.std.specs.Prelude.{[], None, false};
     ghost use Rattle.am_keeper.specs.Rows.{no_rows};
 
     ghost view = { λ d. record {
@@ -24,6 +24,8 @@ impl Desk for Exhausted {
       sharing = record { id = []; desks = 1; handed = [] };
       seen = [];
     } };
+
+    ghost waits = { false };
 
     fn call(&mut self, asked: DeskCall<'_>) -> Result<Shown, NoMemory> {
         drop(asked);

@@ -22,7 +22,7 @@ hand_back-ended-requires-clause-may g c κs within =
 
 pub hand_back-ended-requires-clause-few : goal.hand_back-ended-requires-clause-few
 hand_back-ended-requires-clause-few g c κs within =
-    few_frames c.unwrap_or-answered.result _ _ _ c.serve_link-served.ensures.session
+    few_frames c.unwrap_or-progress.result.answered _ _ _ c.serve_link-served.ensures.session.0
 
 pub returns-clause-next : goal.returns-clause-next
 returns-clause-next g c =
@@ -33,8 +33,9 @@ returns-clause-next g c =
     } in
     let turn : Turn = record { taken = c.count_first-taken.result; ended = c.hand_back-ended.result } in
     let ran = c.serve_link-served.ensures in
-    serves_counted c.args.takes_new link (gate_of g.A.Acceptor c.args.gate.now) _ _ _ _ _ _ c.unwrap_or-answered.result
-    c.serve_link-served.result turn c.unwrap_or-answered.ensures ran.session refl ran.fault ran.waits out
+    serves_counted g.D.Desk.waits c.args.takes_new link (gate_of g.A.Acceptor c.args.gate.now) _ _ _ _ _ _
+    c.serve_link-served.new.least c.unwrap_or-progress.result
+    c.serve_link-served.result turn c.unwrap_or-progress.ensures ran.session refl ran.fault ran.waits out
     c.in_ok-reader.ensures.counted c.hand_back-ended.ensures.back c.count_first-taken.ensures
 
 pub returns-clause-back : goal.returns-clause-back

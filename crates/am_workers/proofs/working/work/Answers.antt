@@ -20,7 +20,7 @@ loop-preserved g c =
     let inv = c.loop.invariant in
     let step = c.in-Ok-Some.ensures in
     let more = one_more_served _ _ _ _ inv.services c.in-Ok-Some.field-0 c.in-Ok-Some.turn c.in-Ok-Some.field-0-is
-    inv.has inv.calm step.next step.desk step.never_falls in
+    inv.has inv.calm step.next step.desk step.never_falls refl in
     let takes = takes_new_as c.args.most _ _ _ c.is_short-takes_new.ensures inv.taken in
     record {
       services = more.all;

@@ -16,12 +16,12 @@ returns-clause-shown g c =
     } in
     call_shows c.self.inside.pass.table_id _ _ _ c.args.self.now (view c.give.new.pass).mark.seen _ _
     (call c.args.self.now.number) _
-    c.take-baton.ensures.taken (sym c.self.view_is) (ap (λ v. v.mark.seen) c.give.ensures.put)
+    c.take_filled-turn.ensures.taken (sym c.self.view_is) (ap (λ v. v.mark.seen) c.give.ensures.put)
     (ap call (c.self.invariant.2 ∙ ap (λ d. d.number) c.self.view_is))
     (rw c.deref_mut.ensures.value at c.step-shown.ensures.shown)
 
 pub returns-clause-refused : goal.returns-clause-refused
 returns-clause-refused g c =
     call_refused c.self.inside.pass.table_id _ _ _ c.args.self.now _ _ _
-    c.take-baton.ensures.taken (sym c.self.view_is) (ap (λ v. v.mark.seen) c.give.ensures.put)
+    c.take_filled-turn.ensures.taken (sym c.self.view_is) (ap (λ v. v.mark.seen) c.give.ensures.put)
     (rw c.deref_mut.ensures.value at c.step-shown.ensures.refused)
