@@ -123,8 +123,9 @@ fn serve_next<D: Desk, A: Acceptor, C: Clock>(
 
 /// Serves the links of a gate on a desk, one after the other, and hands each back to the gate once its connection has
 /// ended, or parks it while it is idle, until no link is to come or the gate fails. A link that was parked is served
-/// further when the gate hands it out again, and if the desk waits its places go on from there. Once it took as many links as are asked for, which are at least 1, it takes
-/// no new one, and works until those have ended. It waits for the links, and its calls for those of other desks.
+/// further when the gate hands it out again, and if the desk waits, its places go on from there. Once it took as many
+/// links as are asked for, which are at least 1, it takes no new one, and works until those have ended. It waits for the
+/// links, and its calls for those of other desks.
 pub fn work<R: Wait, D: Desk, A: Acceptor, C: Clock>(
     rt: &R,
     alloc: Global,
