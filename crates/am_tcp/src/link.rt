@@ -251,9 +251,11 @@ impl<R> TcpReader<R> {
         };
     }
 
-    /// Heeds whether the system reported the peer's end or a fault.
+    /// Heeds that the system reported something, and whether it was the peer's end or a fault.
     pub(crate) fn heed(&mut self, is_ending: bool) {
         self.requests.is_ending |= is_ending;
+        // What was reported isn't reported again, so the next look has to ask for it.
+        self.requests.has_all = false;
     }
 
     /// Reads what came behind the end, and drops it. Answers whether no more is to come.
