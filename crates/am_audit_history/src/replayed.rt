@@ -4,7 +4,7 @@ ghost use Rattle.std.specs.Option.{option_copied};
 ghost use Rattle.am_model.specs.Sound.{IsSound};
 ghost use Rattle.am_history.specs.History.{IsLegal};
 ghost use Rattle.am_history.specs.State.{key_of, opening};
-ghost use Rattle.am_history.specs.Steps.{is_formed};
+ghost use Rattle.am_history.specs.Steps.{has_formed_row};
 ghost use Rattle.am_laws_state.specs.Keys.{KeysAreKnown};
 ghost use Rattle.am_audit_history.specs.Replays.{Advances, ShowsKept, call_held, call_with, replay_from, state_of};
 
@@ -42,7 +42,7 @@ impl Model for Replayed {
 
 // One call of a manager whose keeper never fails: what is stored is kept.
 fn kept_call(manager: &mut Manager<NoKeeper>, call: Call<'_>) -> Result<Shown, NoMemory>
-    requires formed { IsTrue (is_formed call.request) }
+    requires formed { IsTrue (has_formed_row call.request) }
     ensures origin { manager.new.origin ≡ manager.old.origin }
     ensures shown { IfOk result (λ shown. ShowsKept (replay_from manager.old.origin manager.old.history)
         (call_held call.entry) (replay_from manager.old.origin manager.new.history) shown) }
@@ -116,7 +116,7 @@ impl Replayed {
 
     /// One call at the end of the history. What is stored is kept.
     pub fn call(self, call: Call<'_>) -> Result<(Replayed, Shown), NoMemory>
-        requires formed { IsTrue (is_formed call.request) }
+        requires formed { IsTrue (has_formed_row call.request) }
         ensures shown { IfOk result (λ done. ShowsKept self (call_held call.entry) done.0 done.1) }
     {
         let Replayed { mut manager } = self;
@@ -131,7 +131,7 @@ impl Replayed {
 
     // The entry as a call with this key.
     fn call_of(self, key: &Text, entry: &Entry) -> Result<(Replayed, Shown), NoMemory>
-        requires formed { IsTrue (is_formed entry.now.request) }
+        requires formed { IsTrue (has_formed_row entry.now.request) }
         ensures shown { IfOk result (λ done. ShowsKept self (call_with key.now entry.entry.now) done.0 done.1) }
     {
         match entry.request.clone() {
@@ -152,7 +152,7 @@ impl Replayed {
     /// Goes on with an entry, if it may be next.
     pub fn advance(self, entry: &Entry) -> Result<Option<Replayed>, NoMemory>
         requires kept { entry.now.kept ≡ true }
-        requires formed { IsTrue (is_formed entry.now.request) }
+        requires formed { IsTrue (has_formed_row entry.now.request) }
         ensures { IfOk result (λ after. Advances self entry.entry.now after) }
     {
         self.keys_are_known();

@@ -3,6 +3,7 @@ use Rattle.std.specs.Prelude.{◌≡◌, ℕ, suc, ◌+◌, ◌<◌, ◌≤◌, 
 use mathlib.Core.Option.{some}
 use lib.ListN.{get_elem?}
 use Rattle.atomic_table.specs.Seated.{TableId}
+use Rattle.am_types.specs.declared.device.Rules.TheVariants.{Profile}
 use Rattle.am_types.specs.declared.history.Entry.{Entry}
 use Rattle.am_keeper.specs.Rows.{no_rows}
 use Rattle.am_history.specs.Desks.{Origin, Sharing, DeskView}
@@ -40,6 +41,7 @@ key_of t = t.words ∷ (t.slots ∷ (t.views_name ∷ (t.atom ∷ (t.block ∷ (
 abbrev pub no_origin : Origin
 no_origin = record {
   device = record {
+    rules = Profile;
     system_key = [];
     root_key = None;
     browser = None;

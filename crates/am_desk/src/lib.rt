@@ -4,7 +4,7 @@
 ghost use Rattle.std.specs.Prelude.{◌≡◌, ◌≤◌, Bool, IfOk, OnErr, IsTrue};
 ghost use Rattle.am_history.specs.Desks.{DeskView, IsSameDesk, SeesOthers, Shows, start_of};
 ghost use Rattle.am_history.specs.History.{IsLegal};
-ghost use Rattle.am_history.specs.Steps.{is_formed};
+ghost use Rattle.am_history.specs.Steps.{has_formed_row};
 
 use am_types::{NoMemory, Request, Shown, Text};
 
@@ -28,11 +28,11 @@ pub trait Desk {
     /// Whether a call waits until the history has as many entries as the least place that it asks for.
     ghost waits: { Bool };
 
-    /// Makes one call. Its request has the form that a body is read as. If the desk waits, the place of its answer
+    /// Makes one call. The row that its request has kept has a row's form. If the desk waits, the place of its answer
     /// isn't below the least one. After `NoMemory` the call itself changed nothing, but the desk may have seen more
     /// calls of others.
     fn call(&mut self, asked: DeskCall<'_>) -> Result<Shown, NoMemory>
-        requires formed { IsTrue (is_formed asked.request) }
+        requires formed { IsTrue (has_formed_row asked.request) }
         ensures shown { IfOk result (λ shown. Shows (view self.old) (view self.new)
             (record {
               desk = (view self.old).number;

@@ -3,7 +3,7 @@ use Rattle.std.specs.Prelude.{◌≡◌, ◌≤◌, false, IsTrue}
 use Rattle.am_types.specs.Bounds.{longest_body}
 use Rattle.am_types.specs.declared.request.Request.{Request}
 use Rattle.am_history.specs.Desks.{DeskView}
-use Rattle.am_history.specs.Steps.{is_formed, keeps_row}
+use Rattle.am_history.specs.Steps.{has_formed_row, keeps_row}
 use Rattle.am_drill.specs.Bodies.{weight_of}
 
 -- a desk that is number 0 and has its manager for itself
@@ -11,8 +11,8 @@ pub record IsAlone (desk : DeskView) : Type 0 where
   pub number : desk.number ≡ 0
   pub desks : desk.sharing.desks ≡ 1
 
--- a request that has the form that a body is read as, for which no row is kept, and whose body is short
+-- a request for which no row is kept, and whose body is short
 pub record IsPlain (request : Request) : Type 0 where
-  pub formed : IsTrue (is_formed request)
+  pub formed : IsTrue (has_formed_row request)
   pub no_row : keeps_row request ≡ false
   pub short : weight_of request ≤ longest_body

@@ -3,6 +3,7 @@ use Rattle.std.specs.Prelude.{ℕ, ◌+◌, ◌*◌, pos, ◌-ℤ◌, false, cod
 use Rattle.std.specs.List.{range_with_len}
 use Rattle.am_types.specs.declared.device.Device.{Device}
 use Rattle.am_types.specs.declared.device.Package.{Package}
+use Rattle.am_types.specs.declared.device.Rules.TheVariants.{Profile}
 use Rattle.am_types.specs.declared.filter.Filter.{Filter}
 use Rattle.am_types.specs.declared.manifest.Decl.{Decl}
 use Rattle.am_types.specs.declared.manifest.Kind.{Kind}
@@ -59,6 +60,7 @@ packages_of packages state = map (λ i. package_of i (after (4 * i) state)) (ran
 -- the device of so many packages
 unfoldable pub device_of : ℕ → ℕ → Device
 device_of packages state = record {
+  rules = Profile;
   system_key = codes "sys";
   root_key = None;
   browser = None;

@@ -7,7 +7,7 @@ ghost use Rattle.am_drill.specs.Devices.{activity_of, device_of, exported, name_
 
 use crate::draws::Draws;
 use crate::texts::{joined, numbered};
-use am_types::{Decl, Device, Filter, Kind, List, Mode, NoMemory, Package, Text};
+use am_types::{Decl, Device, Filter, Kind, List, Mode, NoMemory, Package, Rules, Text};
 use std::alloc::{AllocError, Global};
 
 /// How many packages a device may have.
@@ -30,6 +30,7 @@ pub(crate) fn device(alloc: Global, draws: &mut Draws, packages: u32) -> Result<
     let system_key = Text::of(alloc, "sys")?;
     let exempt = exempt(alloc)?;
     Ok(Device {
+        rules: Rules::Profile,
         system_key,
         root_key: None,
         browser: None,

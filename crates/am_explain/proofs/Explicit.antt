@@ -7,12 +7,12 @@ use Rattle.am_model.specs.Boards.{Board}
 use Rattle.am_model.specs.Gates.{verdict}
 use Rattle.am_model.specs.Receivers.{declared, rule_of}
 use Rattle.am_installed.specs.Installed.{AreInstalled}
-use Rattle.am_model.specs.Accounts.{Question, component_of, declared_accounts, started, unless_refused}
+use Rattle.am_model.specs.Accounts.{Question, component_of, declared_accounts, search_of, started, unless_refused}
 use Rattle.am_explain.specs.Laws.{is_decided, is_tied, standing_at, started_component}
 use Rattle.am_types.specs.declared.account.Account.{Account}
 use Rattle.am_types.specs.declared.account.Standing.{Standing}
 use Rattle.am_explain.proofs.Named.{as_declared}
-use Rattle.am_explain.proofs.Rivals.{IsOfFound, Rival, met, met_account, of_found_in, rivals_in, search_of}
+use Rattle.am_explain.proofs.Rivals.{IsOfFound, Rival, met, met_account, of_found_in, rivals_in}
 use Rattle.am_explain.proofs.SentTo.{decided_found}
 
 pub decided_rule : (rule : Option Rule) → is_decided (unless_refused rule) ≡ true
@@ -63,11 +63,11 @@ module _ (board : Board) (asked : Question) (c : Component) (names : asked.inten
 
   said : (test : Standing → Bool) → IsOfFound test
       → standing_at test (declared_accounts board asked None board.packages)
-      ≡ standing_at test (map to (rivals_in (search_of asked) board.packages))
+      ≡ standing_at test (map to (rivals_in (search_of board asked) board.packages))
   said test of_found =
       of_found_in board asked test of_found board.packages
       ∙ ap (λ (component : Option Component). standing_at test (map (met_account board asked component)
-      (rivals_in (search_of asked) board.packages))) names
+      (rivals_in (search_of board asked) board.packages))) names
 
   -- it is decided on, if it is declared
   pub explicit_decided : AreInstalled board.packages
@@ -75,10 +75,10 @@ module _ (board : Board) (asked : Question) (c : Component) (names : asked.inten
       ≡ started_component board asked.caller c (declared board.packages asked.kind c)
   explicit_decided installed =
       said is_decided decided_found
-      ∙ all_decided (rivals_in (search_of asked) board.packages)
-      ∙ as_declared (search_of asked) c names to (started_component board asked.caller c) refl one board.packages
+      ∙ all_decided (rivals_in (search_of board asked) board.packages)
+      ∙ as_declared (search_of board asked) c names to (started_component board asked.caller c) refl one board.packages
       installed
 
   -- and nothing is tied
   pub explicit_tied : standing_at is_tied (declared_accounts board asked None board.packages) ≡ []
-  explicit_tied = said is_tied tied_found ∙ none_tied (rivals_in (search_of asked) board.packages)
+  explicit_tied = said is_tied tied_found ∙ none_tied (rivals_in (search_of board asked) board.packages)

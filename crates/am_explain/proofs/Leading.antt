@@ -7,17 +7,18 @@ use Rattle.std.proofs.lemmas.Bool.{false≢true}
 use Rattle.std.proofs.lemmas.Bool.Decides.{Decides-int_eq}
 use Rattle.std.proofs.lemmas.Int.{ints}
 use Rattle.std.proofs.lemmas.List.Sums.{take_while-cons}
+use Rattle.am_types.specs.declared.device.Rules.TheVariants.{Profile}
 use Rattle.am_types.specs.declared.intent.Intent.{Intent}
 use Rattle.am_types.specs.declared.manifest.Kind.TheVariants.{Activity}
 use Rattle.am_types.specs.declared.resolve.Hit.{Hit}
 use Rattle.am_model.specs.Boards.{Board}
 use Rattle.am_model.specs.Candidates.{hits}
-use Rattle.am_model.specs.Targets.{browser_hits, choice, host_to_view, is_approved, is_general, narrowed, target, top, web_hits}
+use Rattle.am_model.specs.Starts.{left_by}
+use Rattle.am_model.specs.Targets.{browser_hits, choice, host_to_view, is_approved, is_general, profile_narrowed, top, web_hits}
 use Rattle.am_model.specs.Texts.{is_same}
 use Rattle.am_model.proofs.Parts.{IsPart, IsPart-filter, neither, none_of_part}
-use Rattle.am_model.proofs.PriorityLaws.{AreNotAbove, IsFalling, falling_part, hits_fall, of_hit}
-use Rattle.am_model.proofs.TargetLaws.{narrowing_leaves_a_part}
-use Rattle.am_model.specs.Accounts.{is_outranked, is_some_approved, start_hits}
+use Rattle.am_model.proofs.PriorityLaws.{AreNotAbove, IsFalling, left_fall, of_hit}
+use Rattle.am_model.specs.Accounts.{is_outranked, is_some_approved}
 use Rattle.am_explain.specs.Contests.{IsLed, is_approved_hit, is_below, leader, leaders_of, priority_of_hit}
 
 -- the first of some hits, if there is one
@@ -44,11 +45,6 @@ leader_of_top (first ∷ others) =
     led [] = refl
     led (other ∷ l) = refl
 
--- the first hit that a start is for is the first that the narrowing leaves
-pub leader_is_first : (board : Board) (intent : Intent) → leader (target board intent)
-    ≡ first_hit (start_hits board intent)
-leader_is_first board intent = leader_of_top (start_hits board intent)
-
 -- if none is above a number, no number that isn't below that is outranked
 none_outranks : (priority limit : ℤ) (found : List Hit) → int_lt priority limit ≡ false → AreNotAbove of_hit limit found
     → is_outranked priority found ≡ false
@@ -68,13 +64,6 @@ outranked_by_first priority (first ∷ others) falls = by (int_lt priority first
     by : (b : Bool) → int_lt priority first.priority ≡ b → b ≡ (b || is_outranked priority others)
     by true e = refl
     by false e = sym (none_outranks priority first.priority others e falls.0)
-
--- what a start is for falls
-pub start_hits_fall : (board : Board) (intent : Intent) → IsFalling of_hit (start_hits board intent)
-start_hits_fall board intent =
-    falling_part of_hit _ (hits board.packages Activity intent true)
-    (narrowing_leaves_a_part board intent (hits board.packages Activity intent true) (host_to_view intent))
-    (hits_fall board.packages Activity intent true)
 
 module _ (board : Board) (host : List ℕ) where
   -- the package of the first of the hits that are approved is approved, if there is one
@@ -123,19 +112,23 @@ module _ (board : Board) (host : List ℕ) where
 
 -- the same of an intent that may have no host
 approved_is : (board : Board) (intent : Intent) (host : Option (List ℕ))
-    → is_approved_hit board.links host (first_hit (narrowed board intent (hits board.packages Activity intent true)
+    → is_approved_hit board.links host (first_hit (profile_narrowed board intent (hits Profile board.packages Activity intent true)
     host)) ≡ is_some_approved board intent host
 approved_is board intent None = refl
-approved_is board intent (Some host) = approved_by_first board host intent (hits board.packages Activity intent true)
+approved_is board intent (Some host) = approved_by_first board host intent
+    (hits Profile board.packages Activity intent true)
 
--- the target of a start shows what decides on an activity
+-- the target of a start shows what decides on an activity under the profile
 pub led : (board : Board) (intent : Intent) → IsLed board intent (leaders_of board.links (host_to_view intent)
-    (target board intent))
-led board intent = record {
-  approved = ap (is_approved_hit board.links (host_to_view intent)) (leader_is_first board intent)
-      ∙ approved_is board intent (host_to_view intent);
-  greatest = λ priority.
-      ap (λ hit. is_below priority (priority_of_hit hit)) (leader_is_first board intent)
-      ∙ outranked_by_first priority (start_hits board intent) (start_hits_fall board intent);
-  tied = refl;
-}
+    (choice (top (left_by Profile board intent))))
+led board intent =
+    let left = left_by Profile board intent in
+    let first = leader_of_top left in
+    record {
+      approved = ap (is_approved_hit board.links (host_to_view intent)) first
+          ∙ approved_is board intent (host_to_view intent);
+      greatest = λ priority.
+          ap (λ hit. is_below priority (priority_of_hit hit)) first
+          ∙ outranked_by_first priority left (left_fall Profile board intent);
+      tied = refl;
+    }

@@ -5,6 +5,7 @@ pub mod Leading
 pub mod Named
 pub mod OfFilters
 pub mod Orders
+pub mod PhoneLeading
 pub mod Reasons
 pub mod Rivals
 pub mod SentTo

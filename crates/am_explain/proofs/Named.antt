@@ -7,7 +7,7 @@ use Rattle.std.proofs.lemmas.List.Elements.{recursion_from_All}
 use Rattle.am_types.specs.declared.intent.Component.{Component}
 use Rattle.am_types.specs.declared.manifest.Decl.{Decl}
 use Rattle.am_types.specs.declared.device.Package.{Package}
-use Rattle.am_model.specs.Candidates.{Search, is_kind}
+use Rattle.am_model.specs.Candidates.{Search, is_kind, plain_finding}
 use Rattle.am_model.specs.Receivers.{decl_in, declared, with_uid}
 use Rattle.am_model.specs.Sound.{AreDistinct, classes_of, names_of}
 use Rattle.am_model.specs.Texts.{is_same}
@@ -21,7 +21,7 @@ use Rattle.am_explain.proofs.Rivals.{Rival, rival_of, rivals_from, rivals_in}
 module _ (search : Search) (c : Component) (names : search.intent.component ≡ Some c) where
   -- the component, with its place
   abbrev rival : Package → ℕ → Decl → Rival
-  rival p place d = record { owner = p; place = place; decl = d; priority = pos 0 }
+  rival p place d = record { owner = p; place = place; decl = d; finding = plain_finding (pos 0) }
 
   -- one component more, with the name held apart
   abbrev one_more : Package → ℕ → Decl → List Decl → Bool → List Rival

@@ -1,12 +1,16 @@
 -- What offers and hits give is the same in another order.
 use Rattle.std.proofs.Common.{◌≡◌, ℤ, Bool, true, false, cond, List, [], ◌∷◌, ◌++◌, refl, sym, ap, ◌∙◌, subst, append_assoc}
 use Rattle.std.specs.Prelude.{int_lt}
+use Rattle.std.specs.Ordering.{is_lt}
 use Rattle.std.specs.List.{filter}
 use Rattle.std.specs.List.Sorted.{IsPermutation}
 use Rattle.std.proofs.lemmas.List.Sorted.{IsPermutation-append_comm, IsPermutation-append_left, IsPermutation-append_right, IsPermutation-refl, IsPermutation-trans}
+use Rattle.am_types.specs.declared.device.Rules.{Rules}
+use Rattle.am_types.specs.declared.device.Rules.TheVariants.{Profile, Android12}
+use Rattle.am_types.specs.declared.resolve.Candidate.{Candidate}
 use Rattle.am_types.specs.declared.resolve.Hit.{Hit}
-use Rattle.am_model.specs.Candidates.{by_priority}
-use Rattle.am_model.specs.Lists.{falling_by, place_by}
+use Rattle.am_model.specs.Candidates.{hits_of, in_turn, phone_cmp, phone_order, profile_order}
+use Rattle.am_model.specs.Lists.{falling_by, ordered as in_line, place_by, placed as put_in_line}
 use Rattle.am_model.specs.Receivers.{Offer, in_order}
 
 -- what each element gives, one after the other
@@ -47,6 +51,64 @@ module _ {X Y : Type 0} (f : X → List Y) (priority : X → ℤ) where
   ordered [] = IsPermutation-refl _
   ordered (x ∷ xs) = IsPermutation-trans _ _ _ (IsPermutation-append_right (f x) _ _ (ordered xs))
       (placed x (falling_by priority xs))
+
+-- and so they do in line by any test
+module _ {X Y : Type 0} (f : X → List Y) (before : X → X → Bool) where
+  put : (x : X) (xs : List X) → IsPermutation (f x ++ flat f xs) (flat f (put_in_line before x xs))
+  put x [] = IsPermutation-refl _
+  put x (y ∷ ys) = by (before y x) (put x ys)
+    where
+      by : (b : Bool) → IsPermutation (f x ++ flat f ys) (flat f (put_in_line before x ys))
+          → IsPermutation (f x ++ flat f (y ∷ ys)) (flat f (cond b (y ∷ put_in_line before x ys) (x ∷ y ∷ ys)))
+      by true p = behind f x y ys (put_in_line before x ys) p
+      by false p = IsPermutation-refl _
+
+  lined : (xs : List X) → IsPermutation (flat f xs) (flat f (in_line before xs))
+  lined [] = IsPermutation-refl _
+  lined (x ∷ xs) = IsPermutation-trans _ _ _ (IsPermutation-append_right (f x) _ _ (lined xs))
+      (put x (in_line before xs))
+
+-- hits by falling priority; ties keep their order
+abbrev pub place_hit : Hit → List Hit → List Hit
+place_hit h hs = place_by (λ (h : Hit). h.priority) h hs
+
+abbrev pub by_priority : List Hit → List Hit
+by_priority hs = falling_by (λ (h : Hit). h.priority) hs
+
+-- placing the hit of a candidate is placing the candidate
+place_hits : (c : Candidate) (cs : List Candidate)
+    → hits_of (place_by (λ (c : Candidate). c.hit.priority) c cs) ≡ place_hit c.hit (hits_of cs)
+place_hits c [] = refl
+place_hits c (x ∷ xs) = by (int_lt c.hit.priority x.hit.priority) (place_hits c xs)
+  where
+    by : (b : Bool) → hits_of (place_by (λ (c : Candidate). c.hit.priority) c xs) ≡ place_hit c.hit (hits_of xs)
+        → hits_of (cond b (x ∷ place_by (λ (c : Candidate). c.hit.priority) c xs) (c ∷ x ∷ xs))
+        ≡ cond b (x.hit ∷ place_hit c.hit (hits_of xs)) (c.hit ∷ x.hit ∷ hits_of xs)
+    by true e = ap (λ l. x.hit ∷ l) e
+    by false e = refl
+
+-- the hits of candidates in the profile's order are their hits by priority
+pub profile_hits : (cs : List Candidate) → hits_of (profile_order cs) ≡ by_priority (hits_of cs)
+profile_hits [] = refl
+profile_hits (c ∷ cs) = place_hits c (profile_order cs) ∙ ap (place_hit c.hit) (profile_hits cs)
+
+-- what the hits of candidates give is what the candidates do
+flat_hits_of : {Y : Type 0} (f : Hit → List Y) (cs : List Candidate)
+    → flat (λ (c : Candidate). f c.hit) cs ≡ flat f (hits_of cs)
+flat_hits_of f [] = refl
+flat_hits_of f (c ∷ cs) = ap (λ l. f c.hit ++ l) (flat_hits_of f cs)
+
+-- in turn, hits give the same in another order
+pub hits_in_turn : {Y : Type 0} (f : Hit → List Y) (rules : Rules) (cs : List Candidate)
+    → IsPermutation (flat f (hits_of cs)) (flat f (hits_of (in_turn rules cs)))
+hits_in_turn f rules cs =
+    subst (λ l. IsPermutation l (flat f (hits_of (in_turn rules cs)))) (flat_hits_of f cs)
+    (subst (λ l. IsPermutation (flat (λ (c : Candidate). f c.hit) cs) l) (flat_hits_of f (in_turn rules cs)) (by rules))
+  where
+    by : (rules : Rules) → IsPermutation (flat (λ (c : Candidate). f c.hit) cs)
+        (flat (λ (c : Candidate). f c.hit) (in_turn rules cs))
+    by Profile = ordered (λ (c : Candidate). f c.hit) (λ (c : Candidate). c.hit.priority) cs
+    by Android12 = lined (λ (c : Candidate). f c.hit) (λ (a b : Candidate). is_lt (phone_cmp a b)) cs
 
 pub ordered_offers : {Y : Type 0} (f : Offer → List Y) (os : List Offer)
     → IsPermutation (flat f os) (flat f (in_order os))

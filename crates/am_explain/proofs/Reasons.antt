@@ -1,12 +1,19 @@
 -- The outcome of testing filters is gathered one by one.
-use Rattle.std.proofs.Common.{◌≡◌, ℕ, ◌+◌, ◌<◌, ℤ, Bool, true, false, ◌||◌, cond, List, ◌∷◌, Option, Some, None, drop, get_or, length, refl, sym, ap, ◌∙◌}
+use Rattle.std.proofs.Common.{◌≡◌, ℕ, ◌+◌, ◌<◌, ℤ, Bool, true, false, ◌||◌, cond, List, ◌∷◌, Option, Some, None, drop, get_or, length, refl, sym, ap, ◌∙◌, subst}
 use Rattle.std.proofs.lemmas.List.{at_drop_more}
 use Rattle.std.specs.Prelude.{is_none}
 use Rattle.am_types.specs.declared.filter.Why.{Why}
-use Rattle.am_model.specs.Candidates.{greatest}
+use Rattle.am_types.specs.declared.device.Rules.{Rules}
+use Rattle.am_types.specs.declared.device.Rules.TheVariants.{Profile}
+use Rattle.am_types.specs.declared.filter.Filter.{Filter}
+use Rattle.am_types.specs.declared.resolve.Finding.{Finding}
+use Rattle.am_model.specs.Candidates.{Search, first_of_two, greatest}
+use Rattle.am_model.specs.Cuts.{unfound_why}
+use Rattle.am_model.specs.Filters.{passes}
 use Rattle.am_filter.specs.Answers.{answer_of}
 use Rattle.am_index.proofs.Priorities.{joined, joined-greatest}
-use Rattle.am_explain.specs.Tests.{with_priority}
+use Rattle.am_index.proofs.Findings.{first_joined, first_joined-earlier}
+use Rattle.am_explain.specs.Tests.{with_finding, with_priority}
 
 -- two answers are the same only for the same reason
 pub same_reason : (reason other : Option Why) → answer_of reason ≡ answer_of other → reason ≡ other
@@ -21,6 +28,21 @@ pub joined-with_priority : (reason : Option Why) (priority : ℤ) (best rest : O
     (cond (is_none reason) (Some (greatest priority rest)) rest)
 joined-with_priority None priority best rest = joined-greatest priority best rest
 joined-with_priority (Some reason) priority best rest = refl
+
+-- the finding by one more filter joins the first so far, or the first of the rest
+pub joined-with_finding : (reason : Option Why) (finding : Finding) (first rest : Option Finding)
+    → first_joined (with_finding reason finding first) rest ≡ first_joined first
+    (cond (is_none reason) (Some (first_of_two finding rest)) rest)
+joined-with_finding None finding first rest = first_joined-earlier finding first rest
+joined-with_finding (Some reason) finding first rest = refl
+
+-- under the profile a filter is found if it is passed
+pub passes_is : (search : Search) → search.rules ≡ Profile → (f : Filter)
+    → passes search.rules f search.intent search.need_default
+    ≡ is_none (unfound_why search.rules f search.intent search.need_default)
+passes_is search profile f =
+    subst (λ (rules : Rules). passes rules f search.intent search.need_default
+    ≡ is_none (unfound_why rules f search.intent search.need_default)) (sym profile) refl
 
 -- of three tests one holds, however they are joined
 pub or_assoc : (a b c : Bool) → ((a || b) || c) ≡ (a || (b || c))

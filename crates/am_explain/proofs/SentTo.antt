@@ -20,18 +20,18 @@ use Rattle.am_types.specs.declared.broadcast.Receiving.{Receiving}
 use Rattle.am_types.specs.declared.rule.Rule.{Rule}
 use Rattle.am_types.specs.declared.rule.Rule.TheVariants as rules
 use Rattle.am_model.specs.Boards.{Board}
-use Rattle.am_model.specs.Candidates.{by_priority, hits, hits_in}
-use Rattle.am_model.specs.Filters.{why}
+use Rattle.am_model.specs.Candidates.{candidates, hits, hits_of, in_turn}
+use Rattle.am_model.specs.Cuts.{unheard_why}
 use Rattle.am_model.specs.Receivers.{Offer, admitted, declared, declared_offer, declared_offers, finds_registered, is_for, name_of, offers, or_rule, receivers, registered_offer, skip_of}
 use Rattle.am_installed.specs.Installed.{AreInstalled}
-use Rattle.am_model.specs.Accounts.{Question, accounts, declared_accounts, named, offer_to, offered, registered_accounts, registered_standing, sending_rule, unless_failed, unless_refused}
+use Rattle.am_model.specs.Accounts.{Question, accounts, declared_accounts, named, offer_to, offered, registered_accounts, registered_standing, search_of, sending_rule, unless_failed, unless_refused}
 use Rattle.am_explain.specs.Laws.{ReceiversAreSentTo, account_of, is_decided, is_reached, reached_spots, standing_at}
 use Rattle.am_types.specs.declared.account.Account.{Account}
 use Rattle.am_types.specs.declared.account.Standing.{Standing}
 use Rattle.am_types.specs.declared.account.Standing.TheVariants.{OtherComponent, OtherPackage}
-use Rattle.am_explain.proofs.Orders.{flat, flat-append, ordered_hits, ordered_offers}
+use Rattle.am_explain.proofs.Orders.{flat, flat-append, hits_in_turn, ordered_offers}
 use Rattle.am_explain.proofs.Known.{all_known}
-use Rattle.am_explain.proofs.Rivals.{HoldsOf, IsOfFound, Rival, all_rivals, as_hits, hit_of_rival, met_account, of_found_in, of_kind, rivals_in, search_of}
+use Rattle.am_explain.proofs.Rivals.{HoldsOf, IsOfFound, Rival, all_rivals, as_hits, hit_of_rival, met_account, of_found_in, of_kind, rivals_in}
 
 -- tests that only components that are found may pass
 pub decided_found : IsOfFound is_decided
@@ -70,7 +70,7 @@ module _ (board : Board) (caller : ℕ) (intent : Intent) (required : Option (Li
         sym (ap (λ (d : Option (ℕ × Decl)). flat picked (declared_offer (hit_of_rival r) d)) known ∙ append-nil _)
 
     picked_rivals : (rs : List Rival) (component : Option Component)
-        → AllByRecursion (HoldsOf (search_of asked) (λ (p : Package) (d : Decl). declared board.packages Receiver
+        → AllByRecursion (HoldsOf (search_of board asked) (λ (p : Package) (d : Decl). declared board.packages Receiver
         (record { «package» = p.name; class = d.class }) ≡ Some (p.uid, d))) rs
         → standing_at test (map (met_account board asked component) rs) ≡ flat picked_hit (map hit_of_rival rs)
     picked_rivals [] component known = refl
@@ -84,14 +84,14 @@ module _ (board : Board) (caller : ℕ) (intent : Intent) (required : Option (Li
     -- of manifests' receivers
     picked_declared : AreInstalled board.packages
         → standing_at test (declared_accounts board asked None board.packages)
-        ≡ flat picked_hit (hits_in (search_of asked) board.packages)
+        ≡ flat picked_hit (hits_of (candidates (search_of board asked) board.packages))
     picked_declared installed =
         of_found_in board asked test of_found board.packages
-        ∙ picked_rivals (rivals_in (search_of asked) board.packages) intent.component
-        (all_rivals (search_of asked) (λ (p : Package) (d : Decl). declared board.packages Receiver
+        ∙ picked_rivals (rivals_in (search_of board asked) board.packages) intent.component
+        (all_rivals (search_of board asked) (λ (p : Package) (d : Decl). declared board.packages Receiver
         (record { «package» = p.name; class = d.class }) ≡ Some (p.uid, d)) board.packages
         (all_known board.packages Receiver installed))
-        ∙ ap (flat picked_hit) (sym (as_hits (search_of asked) board.packages))
+        ∙ ap (flat picked_hit) (sym (as_hits (search_of board asked) board.packages))
 
     -- of a registered receiver
     picked_one : (r : Registration) (component : Option Component) (is : Bool) (reason : Option Why)
@@ -116,7 +116,7 @@ module _ (board : Board) (caller : ℕ) (intent : Intent) (required : Option (Li
     -- of registered receivers
     picked_registered : (rs : List Registration)
         → standing_at test (registered_accounts board asked None rs)
-        ≡ flat picked (map registered_offer (filter (finds_registered board.packages intent) rs))
+        ≡ flat picked (map registered_offer (filter (finds_registered board.rules board.packages intent) rs))
     picked_registered [] = refl
     picked_registered (r ∷ rs) =
         filter-append (λ (a : Account). test a.standing) (record {
@@ -126,13 +126,13 @@ module _ (board : Board) (caller : ℕ) (intent : Intent) (required : Option (Li
         } ∷ []) (registered_accounts board asked None rs)
         ∙ ap (λ l. l ++ standing_at test (registered_accounts board asked None rs))
         (picked_one r intent.component (is_for intent.«package» (name_of board.packages r.uid))
-        (why r.filter intent false))
-        ∙ ap (λ l. flat picked (map registered_offer (cond (finds_registered board.packages intent r) (r ∷ []) []))
+        (unheard_why board.rules r.filter intent))
+        ∙ ap (λ l. flat picked (map registered_offer (cond (finds_registered board.rules board.packages intent r) (r ∷ []) []))
         ++ l) (picked_registered rs)
-        ∙ by (finds_registered board.packages intent r)
+        ∙ by (finds_registered board.rules board.packages intent r)
       where
         others : List Registration
-        others = filter (finds_registered board.packages intent) rs
+        others = filter (finds_registered board.rules board.packages intent) rs
 
         by : (b : Bool) → flat picked (map registered_offer (cond b (r ∷ []) []))
             ++ flat picked (map registered_offer others)
@@ -151,9 +151,9 @@ module _ (board : Board) (caller : ℕ) (intent : Intent) (required : Option (Li
     pub picked_offers : AreInstalled board.packages
         → IsPermutation (standing_at test (accounts board asked None)) (flat picked (offers board intent))
     picked_offers installed =
-        let found = hits_in (search_of asked) board.packages in
-        let registered = map registered_offer (filter (finds_registered board.packages intent) board.registered) in
-        let listed = declared_offers board.packages (hits board.packages Receiver intent false) in
+        let found = hits_of (candidates (search_of board asked) board.packages) in
+        let registered = map registered_offer (filter (finds_registered board.rules board.packages intent) board.registered) in
+        let listed = declared_offers board.packages (hits board.rules board.packages Receiver intent false) in
         let parts : standing_at test (accounts board asked None) ≡ flat picked_hit found ++ flat picked registered =
         filter-append (λ (a : Account). test a.standing) (declared_accounts board asked None board.packages)
         (registered_accounts board asked None board.registered)
@@ -161,8 +161,9 @@ module _ (board : Board) (caller : ℕ) (intent : Intent) (required : Option (Li
         (picked_declared installed)
         ∙ ap (λ l. flat picked_hit found ++ l) (picked_registered board.registered) in
         let sorted : IsPermutation (flat picked_hit found) (flat picked listed) =
-        subst (λ l. IsPermutation (flat picked_hit found) l) (flat_hits (by_priority found))
-        (ordered_hits picked_hit found) in
+        subst (λ l. IsPermutation (flat picked_hit found) l)
+        (flat_hits (hits_of (in_turn board.rules (candidates (search_of board asked) board.packages))))
+        (hits_in_turn picked_hit board.rules (candidates (search_of board asked) board.packages)) in
         let joined : IsPermutation (flat picked_hit found ++ flat picked registered)
         (flat picked (registered ++ listed)) =
         subst (λ l. IsPermutation (flat picked_hit found ++ flat picked registered) l)
@@ -260,9 +261,9 @@ module _ (board : Board) (caller : ℕ) (intent : Intent) (required : Option (Li
       (registered_accounts board asked None board.registered)
       ∙ ap (λ l. l ++ standing_at is_reached (registered_accounts board asked None board.registered))
       (of_found_in board asked is_reached reached_found board.packages
-      ∙ none_met (rivals_in (search_of asked) board.packages) intent.component rule e)
+      ∙ none_met (rivals_in (search_of board asked) board.packages) intent.component rule e)
       ∙ picked_registered is_reached reached_found board.registered
-      ∙ none_reached (map registered_offer (filter (finds_registered board.packages intent) board.registered)) rule e
+      ∙ none_reached (map registered_offer (filter (finds_registered board.rules board.packages intent) board.registered)) rule e
 
 -- the law
 pub receivers_are_sent_to : ReceiversAreSentTo

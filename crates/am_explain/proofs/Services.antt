@@ -11,11 +11,14 @@ use Rattle.am_types.specs.declared.manifest.Kind.{Kind}
 use Rattle.am_types.specs.declared.manifest.Kind.TheVariants.{Service}
 use Rattle.am_types.specs.declared.manifest.Decl.{Decl}
 use Rattle.am_types.specs.declared.device.Package.{Package}
+use Rattle.am_types.specs.declared.device.Rules.{Rules}
+use Rattle.am_types.specs.declared.resolve.Candidate.{Candidate}
+use Rattle.am_types.specs.declared.resolve.Finding.{Finding}
 use Rattle.am_types.specs.declared.resolve.Hit.{Hit}
 use Rattle.am_types.specs.declared.broadcast.Aim.TheVariants.{Declared}
 use Rattle.am_types.specs.declared.rule.Rule.TheVariants as rules
 use Rattle.am_model.specs.Boards.{Board}
-use Rattle.am_model.specs.Candidates.{Search, by_priority, hits, is_in, is_kind, is_named, place_hit, priority_of}
+use Rattle.am_model.specs.Candidates.{Search, candidates, finding_in, hits, hits_of, in_turn, is_in, is_kind, is_named, plain_finding}
 use Rattle.am_model.specs.Gates.{verdict}
 use Rattle.am_model.specs.Intents.{is_same_component}
 use Rattle.am_model.specs.Receivers.{declared, rule_of}
@@ -23,13 +26,14 @@ use Rattle.am_model.specs.Sound.{AreDistinct, classes_of, names_of}
 use Rattle.am_model.specs.Texts.{is_same}
 use Rattle.am_installed.specs.Installed.{AreInstalled, IsInstalled}
 use Rattle.am_index.proofs.Same.{is_same_itself}
-use Rattle.am_model.specs.Accounts.{Question, accounts, component_of, declared_accounts, first_of, is_that, started}
+use Rattle.am_resolve.proofs.Owners.{all_in_turn}
+use Rattle.am_model.specs.Accounts.{Question, accounts, component_of, declared_accounts, first_of, is_that, search_of, started}
 use Rattle.am_explain.specs.Laws.{ServicesAreStarted, implicit_services, is_decided, standing_at, started_component, started_first, started_service}
 use Rattle.am_types.specs.declared.account.Account.{Account}
 use Rattle.am_types.specs.declared.account.Standing.TheVariants.{Outranked, Refused}
 use Rattle.am_explain.proofs.Explicit.{decided_rule, explicit_decided}
 use Rattle.am_explain.proofs.Known.{AllDecls, all_known, and_false}
-use Rattle.am_explain.proofs.Rivals.{Holds, Rival, all_from, all_rivals, as_hits, hit_of_rival, met_account, of_found_in, of_kind, rival_at, rival_of, rivals_from, rivals_in, search_of}
+use Rattle.am_explain.proofs.Rivals.{Holds, Rival, all_from, all_rivals, as_hits, hit_of_rival, met_account, of_found_in, of_kind, rival_at, rival_of, rivals_from, rivals_in}
 use Rattle.am_explain.proofs.SentTo.{decided_found}
 
 -- the component of one that is found
@@ -43,20 +47,20 @@ Distinct (r ∷ rs) = AllByRecursion (λ (o : Rival). is_same_component (name_of
     × Distinct rs
 
 module _ (search : Search) where
-  one_more : (p : Package) (place : ℕ) (d : Decl) (rs : List Rival) (priority : Option ℤ) (is : Bool)
+  one_more : (p : Package) (place : ℕ) (d : Decl) (rs : List Rival) (finding : Option Finding) (is : Bool)
       → AllByRecursion (λ (o : Rival). is_same_component (component_of p d) (name_of_rival o) ≡ false) rs → Distinct rs
-      → Distinct (cond is (rival_at p place d priority) [] ++ rs)
-  one_more p place d rs (Some priority) true others distinct = (others, distinct)
+      → Distinct (cond is (rival_at p place d finding) [] ++ rs)
+  one_more p place d rs (Some finding) true others distinct = (others, distinct)
   one_more p place d rs None true others distinct = distinct
-  one_more p place d rs priority false others distinct = distinct
+  one_more p place d rs finding false others distinct = distinct
 
   one_of : (p : Package) (place : ℕ) (d : Decl) (rs : List Rival) (component : Option Component)
       → AllByRecursion (λ (o : Rival). is_same_component (component_of p d) (name_of_rival o) ≡ false) rs → Distinct rs
       → Distinct (rival_of search p place d component ++ rs)
   one_of p place d rs (Some component) others distinct =
-      one_more p place d rs (Some (pos 0)) (is_named component p.name d.class) others distinct
+      one_more p place d rs (Some (plain_finding (pos 0))) (is_named component p.name d.class) others distinct
   one_of p place d rs None others distinct =
-      one_more p place d rs (priority_of search.kind search.intent search.need_default d.filters)
+      one_more p place d rs (finding_in search.rules search d.filters)
       (is_in search.intent.«package» p) others distinct
 
   -- components of other classes are others
@@ -149,23 +153,27 @@ abbrev IsOneOf : Hit → List Hit → Type 0
 IsOneOf h [] = ⊥
 IsOneOf h (x ∷ xs) = (x ≡ h) ⊎ IsOneOf h xs
 
--- the first by priority is one of them
-first_is_one : (hs : List Hit) (h : Hit) (others : List Hit) → by_priority hs ≡ h ∷ others → IsOneOf h hs
-first_is_one [] h others e = absurd cc
-first_is_one (x ∷ xs) h others e = by (by_priority xs) refl e (first_is_one xs)
-  where
-    by_test : (b : Bool) (y : Hit) (ys placed : List Hit) → by_priority xs ≡ y ∷ ys → cond b (y ∷ placed) (x ∷ y ∷ ys)
-        ≡ h ∷ others
-        → ((h : Hit) (others : List Hit) → by_priority xs ≡ h ∷ others → IsOneOf h xs) → (x ≡ h) ⊎ IsOneOf h xs
-    by_test true y ys placed is e rest =
-        let same : y ≡ h = cc in
-        inr (rest h ys (is ∙ ap (λ (f : Hit). f ∷ ys) same))
-    by_test false y ys placed is e rest = let same : x ≡ h = cc in inl same
+-- each candidate's hit is one of the hits
+one_behind : (h : Hit) (hs : List Hit) (cs : List Candidate)
+    → AllByRecursion (λ (c : Candidate). IsOneOf c.hit hs) cs
+    → AllByRecursion (λ (c : Candidate). IsOneOf c.hit (h ∷ hs)) cs
+one_behind h hs [] a = tt
+one_behind h hs (c ∷ cs) a = (inr a.0, one_behind h hs cs a.1)
 
-    by : (placed : List Hit) → by_priority xs ≡ placed → place_hit x placed ≡ h ∷ others
-        → ((h : Hit) (others : List Hit) → by_priority xs ≡ h ∷ others → IsOneOf h xs) → (x ≡ h) ⊎ IsOneOf h xs
-    by [] is e rest = let same : x ≡ h = cc in inl same
-    by (y ∷ ys) is e rest = by_test (int_lt x.priority y.priority) y ys (place_hit x ys) is e rest
+each_is_one : (cs : List Candidate) → AllByRecursion (λ (c : Candidate). IsOneOf c.hit (hits_of cs)) cs
+each_is_one [] = tt
+each_is_one (c ∷ cs) = (inl refl, one_behind c.hit (hits_of cs) cs (each_is_one cs))
+
+-- the first in turn is one of them
+first_is_one : (rules : Rules) (cs : List Candidate) (h : Hit) (others : List Hit)
+    → hits_of (in_turn rules cs) ≡ h ∷ others → IsOneOf h (hits_of cs)
+first_is_one rules cs h others e =
+    by (in_turn rules cs) (all_in_turn (λ (c : Candidate). IsOneOf c.hit (hits_of cs)) rules cs (each_is_one cs)) e
+  where
+    by : (placed : List Candidate) → AllByRecursion (λ (c : Candidate). IsOneOf c.hit (hits_of cs)) placed
+        → hits_of placed ≡ h ∷ others → IsOneOf h (hits_of cs)
+    by [] a e = absurd cc
+    by (c ∷ placed) a e = let same : c.hit ≡ h = cc in subst (λ (x : Hit). IsOneOf x (hits_of cs)) same a.0
 
 -- what differs from each differs from each hit
 differs_from : (c : Component) (rs : List Rival) (h : Hit) → AllByRecursion
@@ -227,10 +235,11 @@ module _ (board : Board) (caller : ℕ) (intent : Intent) (required : Option (Li
 
   -- what the package has of it
   abbrev rivals : List Rival
-  rivals = rivals_in (search_of asked) board.packages
+  rivals = rivals_in (search_of board asked) board.packages
 
   -- the first that is found
-  first_is : (found : List Hit) → by_priority (map hit_of_rival rivals) ≡ found → AreInstalled board.packages
+  first_is : (found : List Hit)
+      → hits_of (in_turn board.rules (candidates (search_of board asked) board.packages)) ≡ found → AreInstalled board.packages
       → map started_account (filter (is_it (first_of found)) rivals) ≡ started_first board caller found
   first_is [] e installed = ap (map started_account) (none rivals)
     where
@@ -239,16 +248,17 @@ module _ (board : Board) (caller : ℕ) (intent : Intent) (required : Option (Li
       none (r ∷ rs) = none rs
   first_is (h ∷ others) e installed =
       one_is rivals h
-      (across (search_of asked) board.packages installed.names (recursion_from_All IsInstalled board.packages
+      (across (search_of board asked) board.packages installed.names (recursion_from_All IsInstalled board.packages
       installed.each))
-      (all_rivals (search_of asked) (λ (p : Package) (d : Decl). declared board.packages Service (component_of p d)
+      (all_rivals (search_of board asked) (λ (p : Package) (d : Decl). declared board.packages Service (component_of p d)
       ≡ Some (p.uid, d)) board.packages (all_known board.packages Service installed))
-      (first_is_one (map hit_of_rival rivals) h others e)
+      (subst (IsOneOf h) (as_hits (search_of board asked) board.packages)
+      (first_is_one board.rules (candidates (search_of board asked) board.packages) h others e))
 
   -- what is decided if a package is named
   decided_in : (rs : List Rival) (name : List ℕ) → intent.«package» ≡ Some name
       → standing_at is_decided (map (met_account board asked None) rs)
-      ≡ map started_account (filter (is_it (first_of (hits board.packages Service intent false))) rs)
+      ≡ map started_account (filter (is_it (first_of (hits board.rules board.packages Service intent false))) rs)
   decided_in [] name e = refl
   decided_in (r ∷ rs) name e =
       filter-append (λ (a : Account). is_decided a.standing) (met_account board asked None r ∷ [])
@@ -257,13 +267,13 @@ module _ (board : Board) (caller : ℕ) (intent : Intent) (required : Option (Li
       ∙ ap (λ (limited : Option (List ℕ)). standing_at is_decided (record {
         to = Declared (name_of_rival r);
         standing = cond (is_none limited) (Refused rules.ImplicitService)
-            (cond (not (is_it (first_of (hits board.packages Service intent false)) r)) Outranked
+            (cond (not (is_it (first_of (hits board.rules board.packages Service intent false)) r)) Outranked
             (started board caller r.owner r.decl));
       } ∷ []) ++ others) e
-      ∙ by (is_it (first_of (hits board.packages Service intent false)) r)
+      ∙ by (is_it (first_of (hits board.rules board.packages Service intent false)) r)
     where
       kept : List Rival
-      kept = filter (is_it (first_of (hits board.packages Service intent false))) rs
+      kept = filter (is_it (first_of (hits board.rules board.packages Service intent false))) rs
 
       others : List Account
       others = map started_account kept
@@ -289,7 +299,7 @@ module _ (board : Board) (caller : ℕ) (intent : Intent) (required : Option (Li
       ∙ ap (λ (limited : Option (List ℕ)). standing_at is_decided (record {
         to = Declared (name_of_rival r);
         standing = cond (is_none limited) (Refused rules.ImplicitService)
-            (cond (not (is_it (first_of (hits board.packages Service intent false)) r)) Outranked
+            (cond (not (is_it (first_of (hits board.rules board.packages Service intent false)) r)) Outranked
             (started board caller r.owner r.decl));
       } ∷ []) ++ implicit_services (map hit_of_rival rs)) e
 
@@ -310,10 +320,9 @@ module _ (board : Board) (caller : ℕ) (intent : Intent) (required : Option (Li
       ∙ explicit_decided board asked c names (λ r. refl) installed
   decided None (Some name) names limits installed =
       said names ∙ decided_in rivals name limits
-      ∙ first_is (hits board.packages Service intent false) (ap by_priority
-      (sym (as_hits (search_of asked) board.packages))) installed
+      ∙ first_is (hits board.rules board.packages Service intent false) refl installed
   decided None None names limits installed =
-      said names ∙ decided_nowhere rivals limits ∙ ap implicit_services (sym (as_hits (search_of asked) board.packages))
+      said names ∙ decided_nowhere rivals limits ∙ ap implicit_services (sym (as_hits (search_of board asked) board.packages))
 
 -- the law
 pub services_are_started : ServicesAreStarted

@@ -9,18 +9,20 @@ use Rattle.am_types.specs.declared.intent.Intent.{Intent}
 use Rattle.am_types.specs.declared.manifest.Kind.TheVariants.{Activity}
 use Rattle.am_types.specs.declared.manifest.Decl.{Decl}
 use Rattle.am_types.specs.declared.device.Package.{Package}
+use Rattle.am_types.specs.declared.device.Rules.TheVariants.{Profile}
 use Rattle.am_types.specs.declared.resolve.Hit.{Hit}
 use Rattle.am_types.specs.declared.resolve.Target.{Target}
 use Rattle.am_types.specs.declared.broadcast.Aim.TheVariants.{Declared}
 use Rattle.am_types.specs.declared.rule.Rule.{Rule}
 use Rattle.am_model.specs.Boards.{Board}
-use Rattle.am_model.specs.Candidates.{hits, hits_in, is_kind}
+use Rattle.am_model.specs.Candidates.{candidates, hits, hits_of, is_kind}
 use Rattle.am_model.specs.Gates.{verdict}
 use Rattle.am_model.specs.Receivers.{declared, rule_of}
-use Rattle.am_model.specs.Targets.{approves, browser_hits, choice, host_to_view, is_approved, is_general, narrowed, takes_any_host, target, top}
+use Rattle.am_model.specs.Targets.{approves, browser_hits, choice, host_to_view, is_approved, is_general, profile_narrowed, takes_any_host, top}
+use Rattle.am_model.specs.Starts.{left_by, target}
 use Rattle.am_model.specs.Texts.{is_same}
 use Rattle.am_installed.specs.Installed.{AreInstalled}
-use Rattle.am_model.specs.Accounts.{Question, accounts, component_of, declared_accounts, is_choice, is_outranked, is_some_approved, left_out, left_out_for_browser, start_hits, started, unless_kept, unless_left_out, unless_refused}
+use Rattle.am_model.specs.Accounts.{Question, accounts, component_of, declared_accounts, is_choice, is_outranked, is_some_approved, left_out, left_out_for_browser, search_of, started, unless_kept, unless_left_out, unless_refused}
 use Rattle.am_explain.specs.Laws.{is_decided, is_tied, standing_at, started_component, started_target, tied_hits}
 use Rattle.am_types.specs.declared.account.Account.{Account}
 use Rattle.am_types.specs.declared.account.Narrowing.{Narrowing}
@@ -29,8 +31,9 @@ use Rattle.am_types.specs.declared.account.Standing.{Standing}
 use Rattle.am_types.specs.declared.account.Standing.TheVariants.{Outranked, Tied}
 use Rattle.am_explain.proofs.Explicit.{tied_found}
 use Rattle.am_explain.proofs.Known.{AllDecls, IsGeneral, all_general, all_known}
-use Rattle.am_explain.proofs.Leading.{start_hits_fall}
-use Rattle.am_explain.proofs.Rivals.{IsOfFound, Rival, all_rivals, as_hits, hit_of_rival, met_account, of_found_in, rivals_in, search_of}
+use Rattle.am_model.proofs.PriorityLaws.{left_fall}
+use Rattle.am_explain.proofs.Orders.{profile_hits}
+use Rattle.am_explain.proofs.Rivals.{IsOfFound, Rival, all_rivals, as_hits, hit_of_rival, met_account, of_found_in, rivals_in}
 use Rattle.am_explain.proofs.SentTo.{decided_found, decides}
 use Rattle.am_explain.proofs.Tops.{IsTop, top_of}
 
@@ -52,13 +55,13 @@ filter_all (x ∷ xs) = ap (λ l. x ∷ l) (filter_all xs)
 
 -- the narrowing keeps those
 narrowed_is : (board : Board) (intent : Intent) (host : Option (List ℕ))
-    → narrowed board intent (hits board.packages Activity intent true) host
-    ≡ filter (kept board intent host) (hits board.packages Activity intent true)
-narrowed_is board intent None = filter_all (hits board.packages Activity intent true)
+    → profile_narrowed board intent (hits Profile board.packages Activity intent true) host
+    ≡ filter (kept board intent host) (hits Profile board.packages Activity intent true)
+narrowed_is board intent None = filter_all (hits Profile board.packages Activity intent true)
 narrowed_is board intent (Some host) = by (is_some_approved board intent (Some host)) board.browser
   where
     hs : List Hit
-    hs = hits board.packages Activity intent true
+    hs = hits Profile board.packages Activity intent true
 
     by : (approved : Bool) (browser : Option (List ℕ))
         → cond approved (filter (is_approved board.links host) hs) (browser_hits board intent hs browser)
@@ -91,7 +94,7 @@ left_out_is board intent r (Some host) general = by (is_some_approved board inte
         (kept_for_browser board intent browser (hit_of_rival r))
     by true browser = none_unless_kept (approves board.links host r.owner.uid) Approved
     by false (Some browser) = none_unless_kept (is_same r.owner.name browser) Browser
-    by false None = none_unless_kept any_host General ∙ sym (general r.place r.priority)
+    by false None = none_unless_kept any_host General ∙ sym (general r.place r.finding.priority)
 
 -- no account is none, either way
 abbrev no_account : List Account
@@ -109,7 +112,14 @@ of_one_more test account others is =
     filter-append (λ (a : Account). test a.standing) (account ∷ []) others
     ∙ ap (λ l. standing_at test (account ∷ []) ++ l) is
 
-module _ (board : Board) (caller : ℕ) (intent : Intent) (required : Option (List ℕ)) where
+-- the board under the profile
+abbrev pub profiled : Board → Board
+profiled board = record board { rules = Profile }
+
+module _ (given : Board) (caller : ℕ) (intent : Intent) (required : Option (List ℕ)) where
+  abbrev pub board : Board
+  board = profiled given
+
   abbrev asked : Question
   asked = record { caller = caller; kind = Activity; intent = intent; required = required }
 
@@ -133,16 +143,16 @@ module _ (board : Board) (caller : ℕ) (intent : Intent) (required : Option (Li
   -- a component that is found is neither left out nor outranked
   abbrev leads : Rival → Bool
   leads r =
-      is_none (left_out_by r) && not (is_outranked r.priority (start_hits board intent))
+      is_none (left_out_by r) && not (is_outranked r.finding.priority (left_by Profile board intent))
 
   -- of those that are found these are tied
   tied_of : (rs : List Rival)
       → standing_at is_tied (map (met_account board asked None) rs)
-      ≡ cond (is_choice (target board intent)) (map tied_account (filter leads rs)) []
-  tied_of [] = nothing (is_choice (target board intent))
+      ≡ cond (is_choice (target board caller intent)) (map tied_account (filter leads rs)) []
+  tied_of [] = nothing (is_choice (target board caller intent))
   tied_of (r ∷ rs) =
       of_one_more is_tied (met_account board asked None r) (map (met_account board asked None) rs) (tied_of rs)
-      ∙ by (left_out_by r) (is_outranked r.priority (start_hits board intent)) (is_choice (target board intent))
+      ∙ by (left_out_by r) (is_outranked r.finding.priority (left_by Profile board intent)) (is_choice (target board caller intent))
       (rule_of (verdict board.grants caller r.owner.uid r.decl.exported r.decl.permission))
     where
       others : List Account
@@ -168,11 +178,11 @@ module _ (board : Board) (caller : ℕ) (intent : Intent) (required : Option (Li
   -- and these decided on
   decided_of : (rs : List Rival)
       → standing_at is_decided (map (met_account board asked None) rs)
-      ≡ cond (is_choice (target board intent)) [] (map started_account (filter leads rs))
-  decided_of [] = nothing (is_choice (target board intent))
+      ≡ cond (is_choice (target board caller intent)) [] (map started_account (filter leads rs))
+  decided_of [] = nothing (is_choice (target board caller intent))
   decided_of (r ∷ rs) =
       of_one_more is_decided (met_account board asked None r) (map (met_account board asked None) rs) (decided_of rs)
-      ∙ by (left_out_by r) (is_outranked r.priority (start_hits board intent)) (is_choice (target board intent))
+      ∙ by (left_out_by r) (is_outranked r.finding.priority (left_by Profile board intent)) (is_choice (target board caller intent))
     where
       others : List Account
       others = map started_account (filter leads rs)
@@ -202,24 +212,24 @@ module _ (board : Board) (caller : ℕ) (intent : Intent) (required : Option (Li
   Sound r = (declared board.packages Activity (component_of r.owner r.decl) ≡ Some (r.owner.uid, r.decl))
       × IsGeneral intent board.packages r.owner r.decl
 
-  leads_is : (r : Rival) → Sound r → leads r ≡ IsTop (kept board intent (host_to_view intent)) (start_hits board intent)
+  leads_is : (r : Rival) → Sound r → leads r ≡ IsTop (kept board intent (host_to_view intent)) (left_by Profile board intent)
       (hit_of_rival r)
-  leads_is r sound = ap (λ b. b && not (is_outranked r.priority (start_hits board intent)))
+  leads_is r sound = ap (λ b. b && not (is_outranked r.finding.priority (left_by Profile board intent)))
       (left_out_is board intent r (host_to_view intent) sound.1)
 
   leading_hits : (rs : List Rival) → AllByRecursion Sound rs
       → map hit_of_rival (filter leads rs) ≡ filter (IsTop (kept board intent (host_to_view intent))
-      (start_hits board intent)) (map hit_of_rival rs)
+      (left_by Profile board intent)) (map hit_of_rival rs)
   leading_hits [] sound = refl
   leading_hits (r ∷ rs) sound =
       by (leads r) (leading_hits rs sound.1)
       ∙ ap (λ b. cond b (hit_of_rival r ∷ filter (IsTop (kept board intent (host_to_view intent))
-      (start_hits board intent)) (map hit_of_rival rs)) (filter
-      (IsTop (kept board intent (host_to_view intent)) (start_hits board intent)) (map hit_of_rival rs)))
+      (left_by Profile board intent)) (map hit_of_rival rs)) (filter
+      (IsTop (kept board intent (host_to_view intent)) (left_by Profile board intent)) (map hit_of_rival rs)))
       (leads_is r sound.0)
     where
       tops : List Hit
-      tops = filter (IsTop (kept board intent (host_to_view intent)) (start_hits board intent)) (map hit_of_rival rs)
+      tops = filter (IsTop (kept board intent (host_to_view intent)) (left_by Profile board intent)) (map hit_of_rival rs)
 
       by : (b : Bool) → map hit_of_rival (filter leads rs) ≡ tops
           → map hit_of_rival (cond b (r ∷ filter leads rs) (filter leads rs)) ≡ cond b (hit_of_rival r ∷ tops) tops
@@ -257,13 +267,13 @@ module _ (board : Board) (caller : ℕ) (intent : Intent) (required : Option (Li
 
   -- what is found
   abbrev rivals : List Rival
-  rivals = rivals_in (search_of asked) board.packages
+  rivals = rivals_in (search_of board asked) board.packages
 
   all_sound : AreInstalled board.packages → AllByRecursion Sound rivals
   all_sound installed = both rivals
-      (all_rivals (search_of asked) (λ (p : Package) (d : Decl). declared board.packages Activity (component_of p d)
+      (all_rivals (search_of board asked) (λ (p : Package) (d : Decl). declared board.packages Activity (component_of p d)
       ≡ Some (p.uid, d)) board.packages (all_known board.packages Activity installed))
-      (all_rivals (search_of asked) (IsGeneral intent board.packages) board.packages
+      (all_rivals (search_of board asked) (IsGeneral intent board.packages) board.packages
       (each_still board.packages (all_general board.packages intent installed)))
     where
       both : (rs : List Rival) → AllByRecursion (λ (r : Rival). declared board.packages Activity
@@ -285,14 +295,16 @@ module _ (board : Board) (caller : ℕ) (intent : Intent) (required : Option (Li
       each_still (p ∷ ps) a = (still p p.decls a.0, each_still ps a.1)
 
   -- those that lead are the hits that share the greatest priority
-  leading_is : AreInstalled board.packages → map hit_of_rival (filter leads rivals) ≡ top (start_hits board intent)
+  leading_is : AreInstalled board.packages → map hit_of_rival (filter leads rivals) ≡ top (left_by Profile board intent)
   leading_is installed =
       let keeps = kept board intent (host_to_view intent) in
-      let cands = hits_in (search_of asked) board.packages in
+      let found = candidates (search_of board asked) board.packages in
+      let cands = hits_of found in
       leading_hits rivals (all_sound installed)
-      ∙ ap (filter (IsTop keeps (start_hits board intent))) (sym (as_hits (search_of asked) board.packages))
-      ∙ top_of keeps cands (start_hits board intent) (narrowed_is board intent (host_to_view intent))
-      (start_hits_fall board intent)
+      ∙ ap (filter (IsTop keeps (left_by Profile board intent))) (sym (as_hits (search_of board asked) board.packages))
+      ∙ top_of keeps cands (left_by Profile board intent)
+      (narrowed_is board intent (host_to_view intent) ∙ ap (filter keeps) (profile_hits found))
+      (left_fall Profile board intent)
 
   -- the accounts of activities are those of components
   accounts_are : (test : Standing → Bool) → IsOfFound test → intent.component ≡ None
@@ -303,9 +315,9 @@ module _ (board : Board) (caller : ℕ) (intent : Intent) (required : Option (Li
       ∙ ap (λ (component : Option Component). standing_at test (map (met_account board asked component) rivals)) none
 
   pub implicit_decided : AreInstalled board.packages → intent.component ≡ None
-      → standing_at is_decided (accounts board asked None) ≡ started_target board caller (target board intent)
+      → standing_at is_decided (accounts board asked None) ≡ started_target board caller (target board caller intent)
   implicit_decided installed none =
-      let same : choice (map hit_of_rival (filter leads rivals)) ≡ target board intent = ap choice
+      let same : choice (map hit_of_rival (filter leads rivals)) ≡ target board caller intent = ap choice
       (leading_is installed) in
       accounts_are is_decided decided_found none
       ∙ decided_of rivals
@@ -314,9 +326,9 @@ module _ (board : Board) (caller : ℕ) (intent : Intent) (required : Option (Li
       ∙ ap (started_target board caller) same
 
   pub implicit_tied : AreInstalled board.packages → intent.component ≡ None
-      → standing_at is_tied (accounts board asked None) ≡ tied_hits (target board intent)
+      → standing_at is_tied (accounts board asked None) ≡ tied_hits (target board caller intent)
   implicit_tied installed none =
-      let same : choice (map hit_of_rival (filter leads rivals)) ≡ target board intent = ap choice
+      let same : choice (map hit_of_rival (filter leads rivals)) ≡ target board caller intent = ap choice
       (leading_is installed) in
       accounts_are is_tied tied_found none
       ∙ tied_of rivals

@@ -11,12 +11,11 @@ use Rattle.std.proofs.lemmas.Int.{ints}
 use Rattle.std.proofs.lemmas.List.Elements.{All-from_recursion, recursion_from_All}
 use Rattle.std.proofs.lemmas.List.Sorted.{All-permutation, IsPermutation-sym, length_permutation}
 use Rattle.am_types.specs.declared.resolve.Hit.{Hit}
-use Rattle.am_model.specs.Candidates.{by_priority, place_hit}
 use Rattle.am_model.specs.Targets.{top}
 use Rattle.am_model.proofs.PriorityLaws.{AreNotAbove, IsFalling, has_priority, of_hit, top_is_all_greatest}
 use Rattle.am_model.specs.Accounts.{is_outranked}
 use Rattle.am_explain.proofs.Leading.{outranked_by_first}
-use Rattle.am_explain.proofs.Orders.{kept_hits}
+use Rattle.am_explain.proofs.Orders.{by_priority, kept_hits, place_hit}
 
 -- keeping by one test and then by another is keeping by both
 pub filter_both : {X : Type 0} (p q : X → Bool) (xs : List X) → filter q (filter p xs) ≡ filter (λ x. p x && q x) xs

@@ -8,6 +8,7 @@ use Rattle.am_types.specs.declared.filter.Why.{Why}
 use Rattle.am_types.specs.declared.manifest.Decl.{Decl}
 use Rattle.am_types.specs.declared.manifest.Kind.TheVariants as kinds
 use Rattle.am_types.specs.declared.device.Package.{Package}
+use Rattle.am_types.specs.declared.device.Rules.TheVariants.{Profile}
 use Rattle.am_types.specs.declared.resolve.Hit.{Hit}
 use Rattle.am_types.specs.declared.resolve.Registration.{Registration}
 use Rattle.am_types.specs.declared.resolve.Target.{Target}
@@ -17,13 +18,13 @@ use Rattle.am_types.specs.declared.broadcast.Receiving.{Receiving}
 use Rattle.am_types.specs.declared.broadcast.Spot.{Spot}
 use Rattle.am_types.specs.declared.rule.Rule.TheVariants as rules
 use Rattle.am_model.specs.Boards.{Board}
-use Rattle.am_model.specs.Candidates.{candidates, hits}
-use Rattle.am_model.specs.Filters.{why}
+use Rattle.am_model.specs.Candidates.{candidates, hits, hits_of}
+use Rattle.am_model.specs.Cuts.{unfound_why, unheard_why}
 use Rattle.am_model.specs.Gates.{verdict}
 use Rattle.am_model.specs.Receivers.{admitted, declared, receivers, rule_of}
-use Rattle.am_model.specs.Targets.{target}
+use Rattle.am_model.specs.Starts.{target}
 use Rattle.am_installed.specs.Installed.{AreInstalled}
-use Rattle.am_model.specs.Accounts.{Question, accounts, needs_default, registered_standing, sending_rule, standing, unless_refused}
+use Rattle.am_model.specs.Accounts.{Question, accounts, needs_default, registered_standing, search_of, sending_rule, standing, unless_refused}
 use Rattle.am_types.specs.declared.account.Account.{Account}
 use Rattle.am_types.specs.declared.account.Standing.{Standing}
 use Rattle.am_types.specs.declared.account.Standing.TheVariants.{Filters, Tied, Refused, Reached}
@@ -68,7 +69,7 @@ started_target board caller (Choose several) = []
 abbrev pub started_activity : Board → Question → Option Component → List Account
 started_activity board asked (Some component) =
     started_component board asked.caller component (declared board.packages kinds.Activity component)
-started_activity board asked None = started_target board asked.caller (target board asked.intent)
+started_activity board asked None = started_target board asked.caller (target board asked.caller asked.intent)
 
 -- the accounts of the activities from which the user must choose
 abbrev pub tied_hits : Target → List Account
@@ -79,14 +80,16 @@ tied_hits (Choose several) = map (λ (hit : Hit). record { to = Declared hit.com
 -- the choice of a start that names no component
 abbrev pub tied_activities : Board → Question → Option Component → List Account
 tied_activities board asked (Some component) = []
-tied_activities board asked None = tied_hits (target board asked.intent)
+tied_activities board asked None = tied_hits (target board asked.caller asked.intent)
 
--- the activities decided on, by the gate's verdict, are those that the start reaches, and the tied ones are those from
--- which the user must choose
+-- under the profile the activities decided on, by the gate's verdict, are those that the start reaches, and the tied ones
+-- are those from which the user must choose
 pub record ActivitiesAreStarted : Type 0 where
-  pub decided : (board : Board) (asked : Question) → AreInstalled board.packages → asked.kind ≡ kinds.Activity
+  pub decided : (board : Board) (asked : Question) → board.rules ≡ Profile → AreInstalled board.packages
+      → asked.kind ≡ kinds.Activity
       → standing_at is_decided (accounts board asked None) ≡ started_activity board asked asked.intent.component
-  pub tied : (board : Board) (asked : Question) → AreInstalled board.packages → asked.kind ≡ kinds.Activity
+  pub tied : (board : Board) (asked : Question) → board.rules ≡ Profile → AreInstalled board.packages
+      → asked.kind ≡ kinds.Activity
       → standing_at is_tied (accounts board asked None) ≡ tied_activities board asked asked.intent.component
 
 -- the account of the first hit
@@ -105,8 +108,8 @@ abbrev pub started_service : Board → Question → Option Component → Option 
 started_service board asked (Some component) name =
     started_component board asked.caller component (declared board.packages kinds.Service component)
 started_service board asked None (Some name) =
-    started_first board asked.caller (hits board.packages kinds.Service asked.intent false)
-started_service board asked None None = implicit_services (candidates board.packages kinds.Service asked.intent false)
+    started_first board asked.caller (hits board.rules board.packages kinds.Service asked.intent false)
+started_service board asked None None = implicit_services (hits_of (candidates (search_of board asked) board.packages))
 
 -- the service decided on, by the gate's verdict, is the one that the start reaches
 abbrev pub ServicesAreStarted : Type 0
@@ -138,12 +141,12 @@ pub record ReceiversAreSentTo : Type 0 where
       → sending_rule board asked ≡ Some rules.ProtectedAction
       → standing_at is_reached (accounts board asked None) ≡ []
 
--- the reasons of a component are those for which the intent doesn't pass its filters, one for each; the same holds for
+-- the reasons of a component are those for which the intent doesn't find its filters, one for each; the same holds for
 -- the reason of a registered receiver
 pub record ReasonsAreOfFilters : Type 0 where
   pub components : (board : Board) (asked : Question) (owner : Package) (decl : Decl) (reasons : List Why)
       → standing board asked owner decl ≡ Filters reasons
-      → map Some reasons ≡ map (λ (f : Filter). why f asked.intent (needs_default asked.kind)) decl.filters
+      → map Some reasons ≡ map (λ (f : Filter). unfound_why board.rules f asked.intent (needs_default asked.kind)) decl.filters
   pub registered : (board : Board) (asked : Question) (r : Registration) (reasons : List Why)
       → registered_standing board asked r ≡ Filters reasons
-      → map Some reasons ≡ why r.filter asked.intent false ∷ []
+      → map Some reasons ≡ unheard_why board.rules r.filter asked.intent ∷ []

@@ -1,7 +1,7 @@
 //! Laws of the accounts. They have no code: each function does nothing, and its contract is the law.
 ghost use Rattle.am_explain.specs.Laws.{ActivitiesAreStarted, ReasonsAreOfFilters, ReceiversAreSentTo, ServicesAreStarted};
 
-/// The activities decided on, by the gate's verdict, are those that a start of the intent reaches, and the
+/// Under the profile the activities decided on, by the gate's verdict, are those that a start of the intent reaches, and the
 /// tied ones are those from which its user must choose. Takes no memory.
 pub fn activities_are_started()
     ensures { ActivitiesAreStarted }
@@ -20,7 +20,7 @@ pub fn receivers_are_sent_to()
     ensures { ReceiversAreSentTo }
 {}
 
-/// The reasons of a component are those for which the intent doesn't pass its filters, one for each;
+/// The reasons of a component are those for which the intent doesn't find its filters, one for each;
 /// the same holds for the reason of a registered receiver. Takes no memory.
 pub fn reasons_are_of_filters()
     ensures { ReasonsAreOfFilters }

@@ -6,6 +6,7 @@ mod contest;
 mod explain;
 mod laws;
 mod naming;
+mod phone;
 mod reaching;
 mod standing;
 mod tested;

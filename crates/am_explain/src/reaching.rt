@@ -4,7 +4,7 @@ ghost use Rattle.std.specs.List.{list_any};
 ghost use Rattle.am_types.specs.declared.manifest.Kind.TheVariants.{Service};
 ghost use Rattle.am_model.specs.Candidates.{hits};
 ghost use Rattle.am_model.specs.Targets.{host_to_view, takes_any_host};
-ghost use Rattle.am_model.specs.Accounts.{first_of, found_activity, found_service, left_out, left_out_for_browser, offer_to, offered, sending_rule, started, unless_kept, unless_refused};
+ghost use Rattle.am_model.specs.Accounts.{first_of, found_service, left_out, left_out_for_browser, offer_to, offered, profile_found_activity, sending_rule, started, unless_kept, unless_refused};
 ghost use Rattle.am_resolve.specs.Ranking.{offer_of};
 ghost use Rattle.am_explain.specs.Asking.{question_of};
 ghost use Rattle.am_explain.specs.Contests.{IsLed, is_below};
@@ -49,7 +49,7 @@ fn unless_refused(rule: Option<Rule>) -> Standing
 }
 
 /// Left out, unless the component is kept.
-fn unless_kept(kept: bool, narrowing: Narrowing) -> Option<Narrowing>
+pub(crate) fn unless_kept(kept: bool, narrowing: Narrowing) -> Option<Narrowing>
     ensures { result ≡ unless_kept kept narrowing }
 {
     if kept { None } else { Some(narrowing) }
@@ -89,7 +89,7 @@ fn left_out(
 }
 
 /// The priority is below the other, if there is one.
-fn is_below(priority: i32, greatest: Option<i32>) -> bool
+pub(crate) fn is_below(priority: i32, greatest: Option<i32>) -> bool
     ensures { result ≡ is_below priority greatest }
 {
     match greatest {
@@ -98,7 +98,7 @@ fn is_below(priority: i32, greatest: Option<i32>) -> bool
     }
 }
 
-/// An activity that the intent finds with this priority; `any_host` tells whether a filter that the
+/// An activity that the intent finds with this priority under the profile; `any_host` tells whether a filter that the
 /// intent passes lists no authority.
 pub(crate) fn found_activity(
     installed: &Installed,
@@ -112,7 +112,7 @@ pub(crate) fn found_activity(
     requires led { IsLed installed.now question.now.intent.now leaders.now }
     requires any_host { any_host ≡ list_any (takes_any_host question.now.intent.now) decl.now.filters }
     ensures { IfOk result
-        (λ said. said ≡ found_activity installed.now (question_of question.now) owner.now decl.now priority) }
+        (λ said. said ≡ profile_found_activity installed.now (question_of question.now) owner.now decl.now priority) }
 {
     let narrowing = left_out(
         installed,
@@ -141,7 +141,7 @@ pub(crate) fn found_service(
     owner: &Package,
     decl: &Decl,
 ) -> Result<Standing, NoMemory>
-    requires { first.now ≡ first_of (hits installed.now.packages Service question.now.intent.now false) }
+    requires { first.now ≡ first_of (hits installed.now.rules installed.now.packages Service question.now.intent.now false) }
     ensures { IfOk result (λ said. said ≡ found_service installed.now (question_of question.now) owner.now decl.now) }
 {
     if question.intent.package.is_none() {

@@ -1,20 +1,24 @@
 //! The standing of a component or a registered receiver.
 ghost use Rattle.std.specs.Prelude.{◌≡◌, ◌+◌, ◌≤◌, ◌∷◌, [], IsSome, IfOk, length, Some, None};
-ghost use Rattle.std.specs.List.{list_any};
-ghost use Rattle.am_model.specs.Accounts.{enabled, found, named, needs_default, registered_standing, standing};
+ghost use Rattle.am_index.specs.Lookups.{search_of as index_search_of};
+ghost use Rattle.am_model.specs.Accounts.{enabled, found, named, needs_default, registered_standing, search_of as model_search_of, standing};
 ghost use Rattle.am_explain.specs.Asking.{question_of};
 ghost use Rattle.am_explain.specs.Contests.{AreGrounds};
 ghost use Rattle.am_types.specs.declared.account.Standing.TheVariants.{Filters};
-ghost use Rattle.am_explain.specs.Tests.{takes_all_hosts, tested_of};
+ghost use Rattle.am_explain.specs.Tests.{takes_any_host_in, tested_of};
 
 use crate::asking::Question;
 use crate::contest::{Contest, Grounds};
 use crate::naming::{is_other_component, is_other_package};
+use crate::phone;
 use crate::reaching::{found_activity, found_service, offered, offered_to, started};
-use crate::tested::{Tested, ask_filters, test};
+use crate::tested::{Tested, ask_filters, test_registered};
+use am_index::Search;
 use am_installed::Installed;
 use am_resolve::{is_for, registered_offer};
-use am_types::{Decl, Kind, List, NoMemory, Package, Registration, Standing, Steps, Why};
+use am_types::{
+    Decl, Finding, Kind, List, NoMemory, Package, Registration, Standing, Steps, Why,
+};
 use std::alloc::Global;
 use std::sync::ledger::Ledger;
 
@@ -28,26 +32,47 @@ fn needs_default(kind: Kind) -> bool
     }
 }
 
-/// A component that has filters that the intent passes.
+/// What is looked for to answer the question.
+fn search_of<'a>(installed: &Installed, question: &Question<'a>) -> Search<'a>
+    ensures { index_search_of result ≡ model_search_of installed.now (question_of question.now) }
+{
+    Search {
+        rules: installed.rules(),
+        kind: question.kind,
+        intent: question.intent,
+        need_default: needs_default(question.kind),
+    }
+}
+
+/// A component that has filters that the intent finds.
 fn passed(
     grounds: &Grounds,
     owner: &Package,
     decl: &Decl,
-    priority: i32,
+    finding: Finding,
     any_host: bool,
 ) -> Result<Standing, NoMemory>
     requires grounds { AreGrounds grounds.now }
-    requires any_host { any_host ≡ list_any
-        (takes_all_hosts grounds.now.question.intent.now (needs_default grounds.now.question.kind)) decl.now.filters }
+    requires any_host { any_host ≡ takes_any_host_in grounds.now.installed.now.rules
+        (model_search_of grounds.now.installed.now (question_of grounds.now.question)) decl.now.filters }
     ensures { IfOk result (λ said. said
-        ≡ found grounds.now.installed.now (question_of grounds.now.question) owner.now decl.now (Some priority)) }
+        ≡ found grounds.now.installed.now (question_of grounds.now.question) owner.now decl.now (Some finding)) }
 {
     let installed = grounds.installed;
     let question = &grounds.question;
     match grounds.contest {
         Contest::Start(leaders) => found_activity(
-            installed, question, leaders, owner, decl, priority, any_host,
+            installed,
+            question,
+            leaders,
+            owner,
+            decl,
+            finding.priority,
+            any_host,
         ),
+        Contest::PhoneStart(leaders) => {
+            phone::found_activity(installed, question, leaders, owner, decl, finding)
+        }
         Contest::Service(first) => found_service(installed, question, first, owner, decl),
         Contest::Broadcast => offered_to(installed, question, owner, decl),
     }
@@ -61,14 +86,14 @@ fn found(
     tested: Tested,
 ) -> Result<Standing, NoMemory>
     requires grounds { AreGrounds grounds.now }
-    requires tested { tested ≡ tested_of grounds.now.question.kind grounds.now.question.intent.now
-        (needs_default grounds.now.question.kind) decl.now.filters }
+    requires tested { tested
+        ≡ tested_of (model_search_of grounds.now.installed.now (question_of grounds.now.question)) decl.now.filters }
     ensures { IfOk result (λ said. said
         ≡ enabled grounds.now.installed.now (question_of grounds.now.question) owner.now decl.now None) }
 {
     match tested {
         Tested::Failed(reasons) => Ok(Standing::Filters(reasons)),
-        Tested::Passed(priority, any_host) => passed(grounds, owner, decl, priority, any_host),
+        Tested::Passed(finding, any_host) => passed(grounds, owner, decl, finding, any_host),
     }
 }
 
@@ -113,15 +138,8 @@ pub(crate) fn standing_of<L: Ledger>(
     match &question.intent.component {
         Some(_) => named(grounds.installed, question, owner, decl),
         None => {
-            let need_default = needs_default(question.kind);
-            let tested = ask_filters(
-                grounds.alloc,
-                question.kind,
-                question.intent,
-                need_default,
-                &decl.filters,
-                steps,
-            )?;
+            let search = search_of(grounds.installed, question);
+            let tested = ask_filters(grounds.alloc, &search, &decl.filters, steps)?;
             found(grounds, owner, decl, tested)
         }
     }
@@ -146,7 +164,7 @@ pub(crate) fn registered_standing<L: Ledger>(
     if !is_for(installed, question.intent, registration.uid) {
         return Ok(Standing::OtherPackage);
     }
-    match test(&registration.filter, question.intent, false, steps) {
+    match test_registered(installed.rules(), &registration.filter, question.intent, steps) {
         Some(reason) => failed(grounds.alloc, reason),
         None => offered(installed, question, &registered_offer(registration)),
     }

@@ -1,6 +1,7 @@
 //! The tests on the data of an intent: its URI and its type.
 ghost use Rattle.std.specs.Prelude.{◌≡◌, Some, None};
 ghost use Rattle.std.specs.List.{list_any};
+ghost use Rattle.am_types.specs.declared.device.Rules.{Rules};
 ghost use Rattle.am_model.specs.Filters.{data_why, has_host, has_port, is_local, passes_authorities, passes_authority, passes_paths, typed_uri_why, unless, uri_why};
 ghost use Rattle.am_model.specs.MimeTypes.{goes_with, is_any, is_any_type, passes_type, shares_main};
 ghost use Rattle.am_model.specs.Paths.{passes_path};
@@ -9,68 +10,73 @@ ghost use Rattle.am_filter.specs.Answers.{answer_of};
 ghost use Rattle.am_filter.specs.Patterns.{has_pattern, repeats};
 
 use crate::filter::lists;
-use am_types::{Authority, Filter, List, Mime, PathRule, Text, Uri, Why};
+use am_types::{Authority, Filter, List, Mime, PathRule, Rules, Text, Uri, Why};
 use am_uri::passes_path;
 
 /// Whether the data passes. (The `<data>` element of the reference.)
-pub(crate) fn passes(filter: &Filter, uri: &Option<Uri>, mime: &Option<Mime>) -> Result<(), Why>
-    ensures { result ≡ answer_of (data_why filter.now uri.now mime.now) }
+pub(crate) fn passes(
+    rules: Rules,
+    filter: &Filter,
+    uri: &Option<Uri>,
+    mime: &Option<Mime>,
+) -> Result<(), Why>
+    ensures { result ≡ answer_of (data_why rules filter.now uri.now mime.now) }
 {
     match (uri, mime) {
         (None, None) => passes_bare(filter),
-        (Some(uri), None) => passes_uri_alone(filter, uri),
+        (Some(uri), None) => passes_uri_alone(rules, filter, uri),
         (None, Some(mime)) => passes_type_alone(filter, mime),
-        (Some(uri), Some(mime)) => passes_both(filter, uri, mime),
+        (Some(uri), Some(mime)) => passes_both(rules, filter, uri, mime),
     }
 }
 
 /// Neither URI nor type: the filter lists neither scheme nor type.
 fn passes_bare(filter: &Filter) -> Result<(), Why>
-    ensures { result ≡ answer_of (data_why filter.now None None) }
+    ensures { (rules : Rules) → result ≡ answer_of (data_why rules filter.now None None) }
 {
     unless(filter.schemes.as_slice().is_empty(), Why::Scheme)?;
     unless(filter.types.as_slice().is_empty(), Why::Type_)
 }
 
 /// A URI without a type: it passes, and the filter lists no type.
-fn passes_uri_alone(filter: &Filter, uri: &Uri) -> Result<(), Why>
-    ensures { result ≡ answer_of (data_why filter.now (Some uri.now) None) }
+fn passes_uri_alone(rules: Rules, filter: &Filter, uri: &Uri) -> Result<(), Why>
+    ensures { result ≡ answer_of (data_why rules filter.now (Some uri.now) None) }
 {
-    passes_uri(filter, uri)?;
+    passes_uri(rules, filter, uri)?;
     unless(filter.types.as_slice().is_empty(), Why::Type_)
 }
 
 /// A type without a URI: the filter lists no scheme, and the type passes.
 fn passes_type_alone(filter: &Filter, mime: &Mime) -> Result<(), Why>
-    ensures { result ≡ answer_of (data_why filter.now None (Some mime.now)) }
+    ensures { (rules : Rules) → result ≡ answer_of (data_why rules filter.now None (Some mime.now)) }
 {
     unless(filter.schemes.as_slice().is_empty(), Why::Scheme)?;
     unless(passes_type(&filter.types, mime), Why::Type_)
 }
 
 /// Both: each passes, and a filter without schemes accepts local content.
-fn passes_both(filter: &Filter, uri: &Uri, mime: &Mime) -> Result<(), Why>
-    ensures { result ≡ answer_of (data_why filter.now (Some uri.now) (Some mime.now)) }
+fn passes_both(rules: Rules, filter: &Filter, uri: &Uri, mime: &Mime) -> Result<(), Why>
+    ensures { result ≡ answer_of (data_why rules filter.now (Some uri.now) (Some mime.now)) }
 {
-    passes_typed_uri(filter, uri)?;
+    passes_typed_uri(rules, filter, uri)?;
     unless(passes_type(&filter.types, mime), Why::Type_)
 }
 
 /// The reason, unless the test holds.
-fn unless(holds: bool, reason: Why) -> Result<(), Why>
+pub(crate) fn unless(holds: bool, reason: Why) -> Result<(), Why>
     ensures { result ≡ answer_of (unless holds reason) }
 {
     if holds { Ok(()) } else { Err(reason) }
 }
 
 /// A URI with a type passes as it does alone, or as local content if no scheme is listed.
-fn passes_typed_uri(filter: &Filter, uri: &Uri) -> Result<(), Why>
-    ensures { result ≡ answer_of (typed_uri_why filter.now uri.now) }
+fn passes_typed_uri(rules: Rules, filter: &Filter, uri: &Uri) -> Result<(), Why>
+    ensures { result ≡ answer_of (typed_uri_why rules filter.now uri.now) }
 {
     if filter.schemes.as_slice().is_empty() && is_local(uri) {
         Ok(())
     } else {
-        passes_uri(filter, uri)
+        passes_uri(rules, filter, uri)
     }
 }
 
@@ -82,12 +88,12 @@ fn is_local(uri: &Uri) -> bool
 }
 
 /// The scheme passes, then the host and the port, then the path.
-fn passes_uri(filter: &Filter, uri: &Uri) -> Result<(), Why>
-    ensures { result ≡ answer_of (uri_why filter.now uri.now) }
+fn passes_uri(rules: Rules, filter: &Filter, uri: &Uri) -> Result<(), Why>
+    ensures { result ≡ answer_of (uri_why rules filter.now uri.now) }
 {
     unless(lists(&filter.schemes, &uri.scheme), Why::Scheme)?;
     unless(passes_authorities(&filter.authorities, uri), Why::Host)?;
-    unless(passes_paths(filter, uri), Why::Path)
+    unless(passes_paths(rules, filter, uri), Why::Path)
 }
 
 /// Some authority passes, if any is listed.
@@ -107,21 +113,21 @@ fn some_authority_passes(authorities: &[Authority], uri: &Uri) -> bool
 }
 
 /// Some path rule passes, if there is one that counts: paths count only with an authority.
-fn passes_paths(filter: &Filter, uri: &Uri) -> bool
-    ensures { result ≡ passes_paths filter.now uri.now }
+fn passes_paths(rules: Rules, filter: &Filter, uri: &Uri) -> bool
+    ensures { result ≡ passes_paths rules filter.now uri.now }
 {
     filter.authorities.as_slice().is_empty()
         || filter.paths.as_slice().is_empty()
-        || some_path_passes(&filter.paths, &uri.path)
+        || some_path_passes(rules, &filter.paths, &uri.path)
 }
 
 /// Some rule passes. A pattern costs most, so a pattern that is also an earlier rule isn't tested again.
-fn some_path_passes(paths: &List<PathRule>, path: &Text) -> bool
-    ensures { result ≡ list_any (λ rule. passes_path rule path.now) paths.now }
+fn some_path_passes(rules: Rules, paths: &List<PathRule>, path: &Text) -> bool
+    ensures { result ≡ list_any (λ rule. passes_path rules rule path.now) paths.now }
 {
-    let rules = paths.as_slice();
-    for (i, rule) in rules.iter().enumerate() {
-        if !repeats(&rules[..i], rule) && passes_path(rule, path) {
+    let listed = paths.as_slice();
+    for (i, rule) in listed.iter().enumerate() {
+        if !repeats(&listed[..i], rule) && passes_path(rules, rule, path) {
             return true;
         }
     }
@@ -155,7 +161,7 @@ fn has_pattern(rule: &PathRule, pattern: &Text) -> bool
 }
 
 /// The URI has a host, and its host and port match those of the authority.
-fn passes_authority(authority: &Authority, uri: &Uri) -> bool
+pub(crate) fn passes_authority(authority: &Authority, uri: &Uri) -> bool
     ensures { result ≡ passes_authority authority.now uri.now.host uri.now.port }
 {
     match &uri.host {
@@ -223,7 +229,7 @@ pub fn is_any_type(mime: &Mime) -> bool
 }
 
 /// A part that covers every other part.
-fn is_any(part: &Text) -> bool
+pub(crate) fn is_any(part: &Text) -> bool
     ensures { result ≡ is_any part.now }
 {
     part.as_str() == "*"

@@ -20,7 +20,7 @@ use Rattle.am_types.specs.declared.rule.Rule.TheVariants as rules
 use Rattle.am_types.specs.declared.rule.Limit.TheVariants as limits
 use Rattle.am_model.specs.Boards.{with_stopped}
 use Rattle.am_model.specs.Gates.{verdict}
-use Rattle.am_model.specs.Targets.{target}
+use Rattle.am_model.specs.Starts.{target}
 use Rattle.am_model.specs.Receivers.{declared, rule_of, or_rule}
 use Rattle.am_model.specs.Tasks as tasks
 use Rattle.am_model.specs.Tasks.{Tasks, owner, may_end}
@@ -110,7 +110,8 @@ abbrev pub start_aimed : State → ℕ → Intent → Option ℕ → Option Comp
 start_aimed state caller intent source (Some component) =
     start_maybe state caller intent source component rules.NoComponent
     (declared state.board.packages Activity component)
-start_aimed state caller intent source None = start_target state caller intent source (target state.board intent)
+start_aimed state caller intent source None =
+    start_target state caller intent source (target state.board caller intent)
 
 -- an activity is started
 unfoldable pub start : State → ℕ → Intent → Option ℕ → Reply × State

@@ -82,7 +82,7 @@ abbrev pub start_aimed : State → ℕ → Intent → Option Component → Optio
 start_aimed state caller intent (Some component) name =
     start_maybe state caller intent component rules.NoComponent (declared state.board.packages kinds.Service component)
 start_aimed state caller intent None (Some name) =
-    start_first state caller intent (hits state.board.packages kinds.Service intent false)
+    start_first state caller intent (hits state.board.rules state.board.packages kinds.Service intent false)
 start_aimed state caller intent None None = refused state rules.ImplicitService
 
 -- a service is started

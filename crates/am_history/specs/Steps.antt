@@ -11,7 +11,7 @@ use Rattle.am_types.specs.declared.rule.Rule.TheVariants.{KeeperFault, OverLimit
 use Rattle.am_types.specs.declared.rule.Limit.TheVariants as limits
 use Rattle.am_model.specs.Texts.{is_same, lowered}
 use Rattle.am_model.specs.Sound.{is_access_key}
-use Rattle.am_model.specs.Candidates.{hits}
+use Rattle.am_model.specs.Starts.{query_hits}
 use Rattle.am_model.specs.Tasks.{views}
 use Rattle.am_model.specs.Broadcasts as broadcasts
 use Rattle.am_model.specs.Sending.{inbox}
@@ -69,7 +69,7 @@ page before from = take 64 (drop from before)
 -- leaves
 abbrev pub comes_to : State → List Entry → ℕ → Request → Reply × State
 comes_to state before caller (asks.Query kind intent default_only) =
-    (replies.Components (components_of (hits state.board.packages kind intent default_only)), state)
+    (replies.Components (components_of (query_hits state.board kind intent default_only)), state)
 comes_to state before caller (asks.Explain kind intent name permission shown) = (
   explain state.board (record { caller = caller; kind = kind; intent = intent; required = permission }) name shown,
   state,
@@ -157,11 +157,12 @@ abbrev pub asks_keeper : State → List Entry → ℕ → Request → Bool
 asks_keeper state before caller request =
     if keeps_row request then (if is_refusal (act state before caller request).0 then false else true) else false
 
--- the request is of the form that a body is read as: an installation has an access key, and a link a host in lower case
-abbrev pub is_formed : Request → Bool
-is_formed (asks.Install text key) = is_access_key key
-is_formed (asks.Link name host approved) = is_same (lowered host) host
-is_formed _ = true
+-- the row that the request has kept, if any, has the form of a kept row: an installation has an access key, and a link a
+-- host in lower case. Not every such request is one that a body is read as
+abbrev pub has_formed_row : Request → Bool
+has_formed_row (asks.Install text key) = is_access_key key
+has_formed_row (asks.Link name host approved) = is_same (lowered host) host
+has_formed_row _ = true
 
 -- the answer to the request depends neither on broadcasts nor on the moment, and it changes nothing
 abbrev pub is_steady : Request → Bool

@@ -1,10 +1,10 @@
--- The requests that frames make are formed: an installation has an access key, and a link a host in lower case.
+-- The requests that frames make have formed rows: an installation has an access key, and a link a host in lower case.
 use Rattle.std.proofs.Common.{◌≡◌, ℕ, ◌==◌, ◌&&◌, Bool, true, List, [], ◌∷◌, refl, ap, ◌∙◌, subst, IsTrue, arith}
 use Rattle.std.specs.Prelude.{IfOk, Result, Ok, Err}
 use Rattle.am_types.specs.declared.request.Request.{Request}
 use Rattle.am_types.specs.declared.request.Request.TheVariants as asks
 use Rattle.am_model.specs.Texts.{is_same}
-use Rattle.am_history.specs.Steps.{is_formed}
+use Rattle.am_history.specs.Steps.{has_formed_row}
 use Rattle.am_wire_routes.specs.declared.endpoint.Endpoint.{Endpoint}
 use Rattle.am_wire_fields.specs.declared.fault.WireFault.{WireFault}
 use Rattle.am_wire.specs.Requests.{request_of as request_at}
@@ -16,7 +16,7 @@ use Rattle.am_frames.specs.Head.{Frame}
 use Rattle.am_http.specs.Requests.{request_of, request_or, asked_at}
 
 abbrev IsFormed : Request → Type 0
-IsFormed request = IsTrue (is_formed request)
+IsFormed request = IsTrue (has_formed_row request)
 
 -- a text is the same as itself
 same_text : (text : List ℕ) → is_same text text ≡ true
@@ -50,5 +50,5 @@ formed_at (Err (faults.NoMethod endpoint)) body request is = absurd (cc)
 
 -- the request that a frame makes is formed
 pub a_read_request_is_formed : (frame : Frame) (request : Request) → request_of frame ≡ Ok request
-    → IsTrue (is_formed request)
+    → IsTrue (has_formed_row request)
 a_read_request_is_formed frame request is = formed_at (endpoint_of frame.method frame.target) frame.body request is

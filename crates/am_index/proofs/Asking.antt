@@ -1,11 +1,14 @@
 -- What is listed for an intent, and what it finds there: the candidates, within the tests that its group allows.
 use Rattle.std.proofs.Common.{◌≡◌, ℕ, ◌+◌, ◌≤◌, Bool, true, false, not, ◌&&◌, ◌||◌, cond, List, [], ◌∷◌, ◌++◌, Option, Some, None, Vec, HashMap, pos, count_by, refl, sym, ap, ◌∙◌, subst, arith, zero-add, map, codes}
 use Rattle.std.specs.Prelude.{is_none, IsSome}
+use Rattle.std.specs.Option.{option_map}
 use Rattle.std.specs.List.{AllByRecursion, list_any}
 use Rattle.std.specs.declared.alloc.Global.{Global}
 use Rattle.std.proofs.lemmas.Bool.{false≢true}
 use Rattle.std.proofs.lemmas.List.{append_assoc}
 use Rattle.am_types.specs.declared.device.Package.{Package}
+use Rattle.am_types.specs.declared.device.Rules.{Rules}
+use Rattle.am_types.specs.declared.device.Rules.TheVariants.{Profile, Android12}
 use Rattle.am_types.specs.declared.filter.Filter.{Filter}
 use Rattle.am_types.specs.declared.filter.Why.{Why}
 use Rattle.am_types.specs.declared.filter.Why.TheVariants.{Action as OfAction, Scheme as OfScheme, Type_}
@@ -13,15 +16,16 @@ use Rattle.am_types.specs.declared.intent.Component.{Component}
 use Rattle.am_types.specs.declared.intent.Intent.{Intent}
 use Rattle.am_types.specs.declared.manifest.Decl.{Decl}
 use Rattle.am_types.specs.declared.manifest.Kind.{Kind}
-use Rattle.am_types.specs.declared.resolve.Hit.{Hit}
+use Rattle.am_types.specs.declared.resolve.Candidate.{Candidate}
 use Rattle.am_types.specs.declared.uri.Uri.{Uri}
 use Rattle.am_types.specs.declared.uri.Mime.{Mime}
 use Rattle.am_model.specs.Texts.{is_same, lists}
 use Rattle.am_model.specs.MimeTypes.{is_any_type, passes_type}
 use Rattle.am_model.specs.Boards.{package_at}
 use Rattle.am_model.specs.Filters.{is_empty, is_local, unless, or_else, passes_action, data_why, passes}
+use Rattle.am_model.specs.Cuts.{finds}
 use Rattle.am_model.specs.Candidates as candidates
-use Rattle.am_model.specs.Candidates.{Search, is_kind, priority_of, greatest, counted_priority, is_named, hit_at, implicit_hit, hit_of, hits_from, hits_in}
+use Rattle.am_model.specs.Candidates.{Search, is_kind, priority_of, greatest, counted_priority, first_finding, first_of_two, finding_by, finding_in, plain_finding, is_named, candidate_at, implicit_candidate, candidate_of, candidates_from}
 use Rattle.am_index.specs.declared.key.Group.{Group}
 use Rattle.am_index.specs.declared.key.Group.TheVariants.{Class, Typed, Main}
 use Rattle.am_index.specs.declared.key.Key.{Key}
@@ -29,7 +33,7 @@ use Rattle.am_index.specs.declared.key.Spot.{Spot}
 use Rattle.am_index.specs.Groups.{in_group, size_of, group_size}
 use Rattle.am_index.specs.Keys.{is_for, is_in, is_under, lists_main}
 use Rattle.am_index.specs.Lists.{spots_at}
-use Rattle.am_index.specs.Lookups.{type_groups, data_groups_for, groups_for, owner_of, key_of, merged, with_keys, spots_for, priority_found, cost_found, decl_in, hit_in, hit_of_spot, hits_of_spots, cost_in, cost_of_spot, cost_of_spots}
+use Rattle.am_index.specs.Lookups.{type_groups, data_groups_for, groups_for, owner_of, key_of, merged, with_keys, spots_for, finding_found, cost_found, decl_in, candidate_in, candidate_of_spot, candidates_of_spots, cost_in, cost_of_spot, cost_of_spots}
 use Rattle.am_index.specs.Members.{Member, members_from, members, spot_of, spots_where, spots_under}
 use Rattle.am_index.proofs.Same.{both}
 use Rattle.am_index.specs.Standing.{StandsFor}
@@ -38,6 +42,7 @@ use Rattle.am_index.proofs.Listing.{in_filter}
 use Rattle.am_index.proofs.Merging.{merged_where}
 use Rattle.am_index.proofs.Noting.{or_false}
 use Rattle.am_index.proofs.Ordered.{Located, members_in_order, members_located}
+use Rattle.am_index.proofs.Passing.{action_fails, data_fail, fails_unfound, neither, scheme_fails}
 use Rattle.am_installed.proofs.Rising.{rises}
 
 -- a filter is listed for some of the groups
@@ -162,10 +167,6 @@ module _ {S : Type 0} (listed : HashMap Key (Vec Spot Global) S) (kind : Kind) (
       gathered_all l (groups_for None a u m)
       ∙ same_spots _ _ (λ n. by_filters l n (groups_for None a u m) (all_by_filters a u m)) (members kind packages)
 
-neither : (a b : Bool) → (a || b) ≡ false → (a ≡ false) × (b ≡ false)
-neither true b h = absurd (false≢true (sym h))
-neither false b h = (refl, h)
-
 -- types of which none has the main part, or the one that covers every other, don't match a type
 types_apart : (mime : Mime) → is_any_type mime ≡ false → (types : List Mime) → lists_main types mime.main ≡ false
     → lists_main types (codes "*") ≡ false → passes_type types mime ≡ false
@@ -202,31 +203,25 @@ type_outside mime filter h = by (is_any_type mime) refl h
     by true e h = any (is_empty filter.schemes) filter.types h
     by false e h = main e (is_empty filter.schemes) h
 
--- a scheme that isn't listed fails the test
-scheme_fails : (b : Bool) (rest after : Option Why) → b ≡ false → is_none
-    (or_else (or_else (unless b OfScheme) rest) after) ≡ false
-scheme_fails true rest after h = absurd (false≢true (sym h))
-scheme_fails false rest after h = refl
-
 -- the data of an intent fails a filter that isn't listed for a group of theirs
-outside_data : (u : Option Uri) (m : Option Mime) (filter : Filter) → in_some (data_groups_for u m) filter ≡ false
-    → is_none (data_why filter u m) ≡ false
-outside_data None None filter h = by (is_empty filter.schemes) (is_empty filter.types) h
+outside_data : (rules : Rules) (u : Option Uri) (m : Option Mime) (filter : Filter)
+    → in_some (data_groups_for u m) filter ≡ false → is_none (data_why rules filter u m) ≡ false
+outside_data rules None None filter h = by (is_empty filter.schemes) (is_empty filter.types) h
   where
     by : (s t : Bool) → ((s && t) || false) ≡ false → is_none (or_else (unless s OfScheme) (unless t Type_)) ≡ false
     by true true h = absurd (false≢true (sym h))
     by true false h = refl
     by false t h = refl
-outside_data (Some u) None filter h = scheme_fails (lists filter.schemes u.scheme) _ _
+outside_data rules (Some u) None filter h = scheme_fails (lists filter.schemes u.scheme) _ _
     (neither (lists filter.schemes u.scheme) false h).0
-outside_data None (Some m) filter h = by (is_empty filter.schemes) (passes_type filter.types m)
+outside_data rules None (Some m) filter h = by (is_empty filter.schemes) (passes_type filter.types m)
     (type_outside m filter h)
   where
     by : (s p : Bool) → (s && p) ≡ false → is_none (or_else (unless s OfScheme) (unless p Type_)) ≡ false
     by true true h = absurd (false≢true (sym h))
     by true false h = refl
     by false p h = refl
-outside_data (Some u) (Some m) filter h =
+outside_data rules (Some u) (Some m) filter h =
     let parts = neither (lists filter.schemes u.scheme) (in_some (type_groups m) filter) h in
     by (is_empty filter.schemes) (is_local u) (lists filter.schemes u.scheme) (passes_type filter.types m) _ parts.0
     (type_outside m filter parts.1)
@@ -239,63 +234,62 @@ outside_data (Some u) (Some m) filter h =
     by true false false p rest l h = refl
     by false local false p rest l h = refl
 
--- an action that isn't listed fails the test
-action_fails : (actions : List (List ℕ)) (action : List ℕ) (rest : Option Why) → lists actions action ≡ false
-    → is_none (or_else (unless (passes_action actions (Some action)) OfAction) rest) ≡ false
-action_fails [] action rest h = refl
-action_fails (a ∷ others) action rest h = ap (λ b. is_none (or_else (unless b OfAction) rest)) h
-
--- and so do data
-data_fail : (b : Bool) (d after : Option Why) → is_none d ≡ false → is_none
-    (or_else (unless b OfAction) (or_else d after)) ≡ false
-data_fail true None after h = absurd (false≢true (sym h))
-data_fail true (Some reason) after h = refl
-data_fail false d after h = refl
-
-outside_by : (action : Option (List ℕ)) (u : Option Uri) (m : Option Mime) (filter : Filter) (after : Option Why)
-    → in_some (groups_for None action u m) filter ≡ false
-    → is_none (or_else (unless (passes_action filter.actions action) OfAction) (or_else (data_why filter u m) after))
-    ≡ false
-outside_by (Some action) u m filter after h = action_fails filter.actions action _
+outside_by : (rules : Rules) (action : Option (List ℕ)) (u : Option Uri) (m : Option Mime) (filter : Filter)
+    (after : Option Why) → in_some (groups_for None action u m) filter ≡ false
+    → is_none (or_else (unless (passes_action rules filter.actions action) OfAction)
+    (or_else (data_why rules filter u m) after)) ≡ false
+outside_by rules (Some action) u m filter after h = action_fails rules filter.actions action _
     (neither (lists filter.actions action) false h).0
-outside_by None u m filter after h = data_fail (passes_action filter.actions None) (data_why filter u m) after
-    (outside_data u m filter h)
+outside_by rules None u m filter after h =
+    data_fail (passes_action rules filter.actions None) (data_why rules filter u m) after
+    (outside_data rules u m filter h)
 
 -- a filter is listed for a group of the intent, which names no component
 abbrev asked_of : Intent → Filter → Bool
 asked_of intent filter = in_some (groups_for None intent.action intent.uri intent.mime) filter
 
 -- an intent passes no other filter
-outside : (filter : Filter) (intent : Intent) (need_default : Bool) → asked_of intent filter ≡ false
-    → passes filter intent need_default ≡ false
-outside filter intent need_default h = outside_by intent.action intent.uri intent.mime filter _ h
+outside : (rules : Rules) (filter : Filter) (intent : Intent) (need_default : Bool) → asked_of intent filter ≡ false
+    → passes rules filter intent need_default ≡ false
+outside rules filter intent need_default h = outside_by rules intent.action intent.uri intent.mime filter _ h
 
 -- so none of a component of which no filter is listed for a group of the intent
-no_priority : (kind : Kind) (intent : Intent) (need_default : Bool) (filters : List Filter)
-    → list_any (asked_of intent) filters ≡ false → priority_of kind intent need_default filters ≡ None
-no_priority kind intent need_default [] h = refl
-no_priority kind intent need_default (f ∷ fs) h =
-    let parts = neither (asked_of intent f) (list_any (asked_of intent) fs) h in
-    ap (λ b. cond b (Some (greatest (counted_priority kind f.priority) (priority_of kind intent need_default fs)))
-    (priority_of kind intent need_default fs)) (outside f intent need_default parts.0)
-    ∙ no_priority kind intent need_default fs parts.1
+no_priority : (search : Search) (filters : List Filter) → list_any (asked_of search.intent) filters ≡ false
+    → priority_of search filters ≡ None
+no_priority search [] h = refl
+no_priority search (f ∷ fs) h =
+    let parts = neither (asked_of search.intent f) (list_any (asked_of search.intent) fs) h in
+    ap (λ b. cond b (Some (greatest (counted_priority search.kind f.priority) (priority_of search fs)))
+    (priority_of search fs)) (outside search.rules f search.intent search.need_default parts.0)
+    ∙ no_priority search fs parts.1
+
+no_first : (search : Search) (filters : List Filter) → list_any (asked_of search.intent) filters ≡ false
+    → first_finding search filters ≡ None
+no_first search [] h = refl
+no_first search (f ∷ fs) h =
+    let parts = neither (asked_of search.intent f) (list_any (asked_of search.intent) fs) h in
+    ap (λ b. cond b (Some (first_of_two (finding_by search f) (first_finding search fs))) (first_finding search fs))
+    (fails_unfound search.rules f search.intent search.need_default
+    (outside search.rules f search.intent search.need_default parts.0))
+    ∙ no_first search fs parts.1
+
+no_finding : (rules : Rules) (search : Search) (filters : List Filter)
+    → list_any (asked_of search.intent) filters ≡ false → finding_in rules search filters ≡ None
+no_finding Profile search filters h = ap (option_map plain_finding) (no_priority search filters h)
+no_finding Android12 search filters h = no_first search filters h
 
 -- the intent names no package, or this one
 package_asked : (name : Option (List ℕ)) (owner : Package) → candidates.is_in name owner ≡ is_for name owner.name
 package_asked None owner = refl
 package_asked (Some name) owner = refl
 
-module _ (kind : Kind) (intent : Intent) (need_default : Bool) where
-  -- what is looked for
-  abbrev what : Search
-  what = record { kind = kind; intent = intent; need_default = need_default }
-
+module _ (what : Search) where
   -- what the intent finds of a component
-  abbrev found_of : Member → List Hit
-  found_of m = hit_of what m.owner m.place m.decl intent.component
+  abbrev found_of : Member → List Candidate
+  found_of m = candidate_of what m.owner m.place m.decl what.intent.component
 
   -- what it finds of all
-  abbrev all_found : List Member → List Hit
+  abbrev all_found : List Member → List Candidate
   all_found [] = []
   all_found (m ∷ ms) = found_of m ++ all_found ms
 
@@ -304,137 +298,149 @@ module _ (kind : Kind) (intent : Intent) (need_default : Bool) where
   all_found-append (x ∷ xs) ys = ap (λ l. found_of x ++ l) (all_found-append xs ys)
       ∙ sym (append_assoc (found_of x) (all_found xs) (all_found ys))
 
-  from_hits : (owner : Package) (at n : ℕ) (ds : List Decl) → hits_from what owner n ds
-      ≡ all_found (members_from kind owner at n ds)
-  from_hits owner at n [] = refl
-  from_hits owner at n (d ∷ ds) = by (is_kind kind d.kind) d.enabled (from_hits owner (at + 1) (n + 1) ds)
-      (from_hits owner (at + 1) n ds)
+  from_found : (owner : Package) (at n : ℕ) (ds : List Decl) → candidates_from what owner n ds
+      ≡ all_found (members_from what.kind owner at n ds)
+  from_found owner at n [] = refl
+  from_found owner at n (d ∷ ds) = by (is_kind what.kind d.kind) d.enabled (from_found owner (at + 1) (n + 1) ds)
+      (from_found owner (at + 1) n ds)
     where
-      by : (k e : Bool) → hits_from what owner (n + 1) ds ≡ all_found (members_from kind owner (at + 1) (n + 1) ds)
-          → hits_from what owner n ds ≡ all_found (members_from kind owner (at + 1) n ds)
-          → cond k (cond e (hit_of what owner n d intent.component) [] ++ hits_from what owner (n + 1) ds)
-          (hits_from what owner n ds)
+      by : (k e : Bool)
+          → candidates_from what owner (n + 1) ds ≡ all_found (members_from what.kind owner (at + 1) (n + 1) ds)
+          → candidates_from what owner n ds ≡ all_found (members_from what.kind owner (at + 1) n ds)
+          → cond k (cond e (candidate_of what owner n d what.intent.component) []
+          ++ candidates_from what owner (n + 1) ds) (candidates_from what owner n ds)
           ≡ all_found (cond k (cond e (record { owner = owner; position = at; place = n; decl = d }
-          ∷ members_from kind owner (at + 1) (n + 1) ds) (members_from kind owner (at + 1) (n + 1) ds))
-          (members_from kind owner (at + 1) n ds))
-      by true true p q = ap (λ l. hit_of what owner n d intent.component ++ l) p
+          ∷ members_from what.kind owner (at + 1) (n + 1) ds) (members_from what.kind owner (at + 1) (n + 1) ds))
+          (members_from what.kind owner (at + 1) n ds))
+      by true true p q = ap (λ l. candidate_of what owner n d what.intent.component ++ l) p
       by true false p q = p
       by false e p q = q
 
   -- the candidates are what the intent finds of the components
-  candidates_found : (packages : List Package) → hits_in what packages ≡ all_found (members kind packages)
+  candidates_found : (packages : List Package) → candidates.candidates what packages
+      ≡ all_found (members what.kind packages)
   candidates_found [] = refl
   candidates_found (p ∷ ps) =
-      ap (λ l. l ++ hits_in what ps) (from_hits p 0 0 p.decls)
-      ∙ ap (λ l. all_found (members_from kind p 0 0 p.decls) ++ l) (candidates_found ps)
-      ∙ sym (all_found-append (members_from kind p 0 0 p.decls) (members kind ps))
+      ap (λ l. l ++ candidates.candidates what ps) (from_found p 0 0 p.decls)
+      ∙ ap (λ l. all_found (members_from what.kind p 0 0 p.decls) ++ l) (candidates_found ps)
+      ∙ sym (all_found-append (members_from what.kind p 0 0 p.decls) (members what.kind ps))
 
   -- the intent seeks the component if it names its component, or its package or none
   abbrev seeks : Option Component → Member → Bool
-  seeks c m = sought_by c intent.«package» intent.action intent.uri intent.mime m
+  seeks c m = sought_by c what.intent.«package» what.intent.action what.intent.uri what.intent.mime m
 
-  -- a component that the intent seeks is found with the priority that its filters give
+  -- a component that the intent seeks is found as its filters say
   seen : (m : Member) (c : Option Component) → seeks c m ≡ true
-      → hit_at m.owner m.place m.decl (priority_found c kind intent need_default m.decl)
-      ≡ hit_of what m.owner m.place m.decl c
-  seen m (Some c) h = sym (ap (λ b. cond b (hit_at m.owner m.place m.decl (Some (pos 0))) []) h)
+      → candidate_at m.owner m.place m.decl (finding_found what c m.decl)
+      ≡ candidate_of what m.owner m.place m.decl c
+  seen m (Some c) h =
+      sym (ap (λ b. cond b (candidate_at m.owner m.place m.decl (Some (plain_finding (pos 0)))) []) h)
   seen m None h =
-      sym (ap (λ b. cond b (implicit_hit what m.owner m.place m.decl) [])
-      (package_asked intent.«package» m.owner ∙ (both (is_for intent.«package» m.owner.name)
-      (list_any (asked_of intent) m.decl.filters) h).0))
+      sym (ap (λ b. cond b (implicit_candidate what m.owner m.place m.decl) [])
+      (package_asked what.intent.«package» m.owner ∙ (both (is_for what.intent.«package» m.owner.name)
+      (list_any (asked_of what.intent) m.decl.filters) h).0))
 
   -- nothing is found of another
-  unseen_implicit : (m : Member) → list_any (asked_of intent) m.decl.filters ≡ false
-      → implicit_hit what m.owner m.place m.decl ≡ []
-  unseen_implicit m h = ap (hit_at m.owner m.place m.decl) (no_priority kind intent need_default m.decl.filters h)
+  unseen_implicit : (m : Member) → list_any (asked_of what.intent) m.decl.filters ≡ false
+      → implicit_candidate what m.owner m.place m.decl ≡ []
+  unseen_implicit m h = ap (candidate_at m.owner m.place m.decl) (no_finding what.rules what m.decl.filters h)
 
-  unseen : (m : Member) (c : Option Component) → seeks c m ≡ false → hit_of what m.owner m.place m.decl c ≡ []
-  unseen m (Some c) h = ap (λ b. cond b (hit_at m.owner m.place m.decl (Some (pos 0))) []) h
+  unseen : (m : Member) (c : Option Component) → seeks c m ≡ false → candidate_of what m.owner m.place m.decl c ≡ []
+  unseen m (Some c) h =
+      ap (λ b. cond b (candidate_at m.owner m.place m.decl (Some (plain_finding (pos 0)))) []) h
   unseen m None h =
-      ap (λ b. cond b (implicit_hit what m.owner m.place m.decl) []) (package_asked intent.«package» m.owner)
-      ∙ by (is_for intent.«package» m.owner.name) h
+      ap (λ b. cond b (implicit_candidate what m.owner m.place m.decl) [])
+      (package_asked what.intent.«package» m.owner)
+      ∙ by (is_for what.intent.«package» m.owner.name) h
     where
-      by : (b : Bool) → (b && list_any (asked_of intent) m.decl.filters) ≡ false
-          → cond b (implicit_hit what m.owner m.place m.decl) [] ≡ []
+      by : (b : Bool) → (b && list_any (asked_of what.intent) m.decl.filters) ≡ false
+          → cond b (implicit_candidate what m.owner m.place m.decl) [] ≡ []
       by true h = unseen_implicit m h
       by false h = refl
 
   module _ (packages : List Package) where
     -- the component at a spot
-    at_spot : (m : Member) → Located packages m → hit_of_spot packages kind intent need_default (spot_of m)
-        ≡ hit_at m.owner m.place m.decl (priority_found intent.component kind intent need_default m.decl)
+    at_spot : (m : Member) → Located packages m → candidate_of_spot what packages (spot_of m)
+        ≡ candidate_at m.owner m.place m.decl (finding_found what what.intent.component m.decl)
     at_spot m there =
-        ap (λ o. hit_in o (decl_in o m.position) m.place kind intent need_default) there.owner
-        ∙ ap (λ d. hit_in (Some m.owner) d m.place kind intent need_default) there.decl
+        ap (λ o. candidate_in what o (decl_in o m.position) m.place) there.owner
+        ∙ ap (λ d. candidate_in what (Some m.owner) d m.place) there.decl
 
     -- at the spots of the components that the intent seeks all is found
     walked : (ms : List Member) → AllByRecursion (Located packages) ms
-        → hits_of_spots packages kind intent need_default (spots_where (sought intent) ms) ≡ all_found ms
+        → candidates_of_spots what packages (spots_where (sought what.intent) ms) ≡ all_found ms
     walked [] there = refl
-    walked (m ∷ ms) there = by (sought intent m) refl (walked ms there.1)
+    walked (m ∷ ms) there = by (sought what.intent m) refl (walked ms there.1)
       where
-        by : (b : Bool) → sought intent m ≡ b → hits_of_spots packages kind intent need_default
-            (spots_where (sought intent) ms) ≡ all_found ms
-            → hits_of_spots packages kind intent need_default (cond b (spot_of m ∷ spots_where (sought intent) ms)
-            (spots_where (sought intent) ms)) ≡ found_of m ++ all_found ms
+        by : (b : Bool) → sought what.intent m ≡ b → candidates_of_spots what packages
+            (spots_where (sought what.intent) ms) ≡ all_found ms
+            → candidates_of_spots what packages (cond b (spot_of m ∷ spots_where (sought what.intent) ms)
+            (spots_where (sought what.intent) ms)) ≡ found_of m ++ all_found ms
         by true e rest =
-            ap (λ l. l ++ hits_of_spots packages kind intent need_default (spots_where (sought intent) ms))
-            (at_spot m there.0 ∙ seen m intent.component e)
+            ap (λ l. l ++ candidates_of_spots what packages (spots_where (sought what.intent) ms))
+            (at_spot m there.0 ∙ seen m what.intent.component e)
             ∙ ap (λ l. found_of m ++ l) rest
-        by false e rest = rest ∙ sym (ap (λ l. l ++ all_found ms) (unseen m intent.component e))
+        by false e rest = rest ∙ sym (ap (λ l. l ++ all_found ms) (unseen m what.intent.component e))
 
   -- the tests at the spot of a component are at most those of its filters in the group
   cost_at : (packages : List Package) (m : Member) → Located packages m
-      → cost_of_spot packages intent (spot_of m) ≤ count_by (in_group intent) m.decl.filters
+      → cost_of_spot packages what.intent (spot_of m) ≤ count_by (in_group what.intent) m.decl.filters
   cost_at packages m there =
-      let same : cost_of_spot packages intent (spot_of m) ≡ cost_found intent.component intent m.decl =
-      ap (λ o. cost_in (decl_in o m.position) intent) there.owner ∙ ap (λ d. cost_in d intent) there.decl in
-      let few : cost_found intent.component intent m.decl ≤ count_by (in_group intent) m.decl.filters = by
-      intent.component in
+      let same : cost_of_spot packages what.intent (spot_of m)
+      ≡ cost_found what.intent.component what.intent m.decl =
+      ap (λ o. cost_in (decl_in o m.position) what.intent) there.owner
+      ∙ ap (λ d. cost_in d what.intent) there.decl in
+      let few : cost_found what.intent.component what.intent m.decl
+      ≤ count_by (in_group what.intent) m.decl.filters = by what.intent.component in
       omega arith
     where
-      by : (c : Option Component) → cost_found c intent m.decl ≤ count_by (in_group intent) m.decl.filters
+      by : (c : Option Component) → cost_found c what.intent m.decl ≤ count_by (in_group what.intent) m.decl.filters
       by (Some c) = omega arith
       by None = omega arith
 
   -- and those of all at most the size of the group
   cost_within : (packages : List Package) (ms : List Member) → AllByRecursion (Located packages) ms
-      → cost_of_spots packages intent (spots_where (sought intent) ms) ≤ size_of intent ms
+      → cost_of_spots packages what.intent (spots_where (sought what.intent) ms) ≤ size_of what.intent ms
   cost_within packages [] there = omega arith
-  cost_within packages (m ∷ ms) there = by (sought intent m) (cost_within packages ms there.1)
+  cost_within packages (m ∷ ms) there = by (sought what.intent m) (cost_within packages ms there.1)
       (cost_at packages m there.0)
     where
-      by : (b : Bool) → cost_of_spots packages intent (spots_where (sought intent) ms) ≤ size_of intent ms
-          → cost_of_spot packages intent (spot_of m) ≤ count_by (in_group intent) m.decl.filters
-          → cost_of_spots packages intent (cond b (spot_of m ∷ spots_where (sought intent) ms)
-          (spots_where (sought intent) ms)) ≤ count_by (in_group intent) m.decl.filters + size_of intent ms
+      by : (b : Bool)
+          → cost_of_spots packages what.intent (spots_where (sought what.intent) ms) ≤ size_of what.intent ms
+          → cost_of_spot packages what.intent (spot_of m) ≤ count_by (in_group what.intent) m.decl.filters
+          → cost_of_spots packages what.intent (cond b (spot_of m ∷ spots_where (sought what.intent) ms)
+          (spots_where (sought what.intent) ms))
+          ≤ count_by (in_group what.intent) m.decl.filters + size_of what.intent ms
       by true p q = omega arith
       by false p q = omega arith
 
   module _ (index : FilterIndex) (packages : List Package) (stands : StandsFor index packages) where
     -- what is listed for an intent is what it seeks
-    pub listed : spots_for index.lists kind intent ≡ spots_where (sought intent) (members kind packages)
+    pub listed : spots_for index.lists what.kind what.intent
+        ≡ spots_where (sought what.intent) (members what.kind packages)
     listed =
-        asked index.lists kind packages stands.lists
-        (λ p q. merged_where p q (members kind packages) (members_in_order kind packages
+        asked index.lists what.kind packages stands.lists
+        (λ p q. merged_where p q (members what.kind packages) (members_in_order what.kind packages
         (rises packages stands.rising)))
-        intent.component intent.«package» intent.action intent.uri intent.mime
+        what.intent.component what.intent.«package» what.intent.action what.intent.uri what.intent.mime
 
     -- what is found there are the candidates
-    pub finds_candidates : hits_of_spots packages kind intent need_default (spots_for index.lists kind intent)
-        ≡ candidates.candidates packages kind intent need_default
+    pub finds_candidates : candidates_of_spots what packages (spots_for index.lists what.kind what.intent)
+        ≡ candidates.candidates what packages
     finds_candidates =
-        ap (hits_of_spots packages kind intent need_default) listed
-        ∙ walked packages (members kind packages) (members_located kind packages (rises packages stands.rising))
+        ap (candidates_of_spots what packages) listed
+        ∙ walked packages (members what.kind packages)
+        (members_located what.kind packages (rises packages stands.rising))
         ∙ sym (candidates_found packages)
 
     -- what is looked up is within as many tests as the group has filters
-    pub within_group : (spots : List Spot) → spots ≡ spots_for index.lists kind intent
-        → cost_of_spots packages intent spots ≤ group_size packages kind intent
+    pub within_group : (spots : List Spot) → spots ≡ spots_for index.lists what.kind what.intent
+        → cost_of_spots packages what.intent spots ≤ group_size packages what.kind what.intent
     within_group spots found =
-        subst (λ (l : List Spot). cost_of_spots packages intent l ≤ group_size packages kind intent)
+        subst (λ (l : List Spot). cost_of_spots packages what.intent l ≤ group_size packages what.kind what.intent)
         (sym (found ∙ listed))
-        (cost_within packages (members kind packages) (members_located kind packages (rises packages stands.rising)))
+        (cost_within packages (members what.kind packages)
+        (members_located what.kind packages (rises packages stands.rising)))
 
 -- an intent that names a component takes no test
 pub explicit_free : (packages : List Package) (intent : Intent) (spots : List Spot) → IsSome intent.component

@@ -1,5 +1,6 @@
 pub mod Asking
 pub mod Dropping
+pub mod Findings
 pub mod GroupExamples
 pub mod Listing
 pub mod Merging

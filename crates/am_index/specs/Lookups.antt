@@ -1,22 +1,28 @@
 -- Which keys an intent asks for, and what is found at the spots listed there.
 use Rattle.std.specs.Prelude.{ℕ, ◌+◌, Bool, ◌&&◌, ◌||◌, ◌==◌, nat_lt, List, [], ◌∷◌, ◌++◌, map, codes, slice_get, count_by, Vec, Option, Some, None, if◌then◌else◌, ℤ, pos}
 use Rattle.std.specs.HashMap.{HashMap}
+use Rattle.std.specs.Cmp.Lexicographic.{slice_cmp}
+use Rattle.std.specs.Ordering.{nat_cmp, ordering_then}
 use Rattle.std.specs.declared.alloc.Global.{Global}
+use Rattle.std.specs.declared.cmp.Ordering.{Ordering}
 use Rattle.am_types.specs.declared.device.Package.{Package}
+use Rattle.am_types.specs.declared.device.Rules.{Rules}
 use Rattle.am_types.specs.declared.intent.Component.{Component}
 use Rattle.am_types.specs.declared.intent.Intent.{Intent}
 use Rattle.am_types.specs.declared.manifest.Decl.{Decl}
 use Rattle.am_types.specs.declared.manifest.Kind.{Kind}
-use Rattle.am_types.specs.declared.resolve.Hit.{Hit}
+use Rattle.am_types.specs.declared.resolve.Candidate.{Candidate}
+use Rattle.am_types.specs.declared.resolve.Finding.{Finding}
 use Rattle.am_types.specs.declared.uri.Uri.{Uri}
 use Rattle.am_types.specs.declared.uri.Mime.{Mime}
 use Rattle.am_model.specs.Boards.{package_at}
-use Rattle.am_model.specs.Candidates.{priority_of, hit_at}
+use Rattle.am_model.specs.Candidates.{Search, candidate_at, finding_in, first_of_two, plain_finding}
 use Rattle.am_model.specs.MimeTypes.{is_any_type}
 use Rattle.am_index.specs.declared.key.Group.{Group}
 use Rattle.am_index.specs.declared.key.Group.TheVariants.{Class, Action, Scheme, Bare, Typed, Main}
 use Rattle.am_index.specs.declared.key.Key.{Key}
 use Rattle.am_index.specs.declared.key.Spot.{Spot}
+use Rattle.am_index.specs.declared.search.Search.{Search as Asked}
 use Rattle.am_index.specs.Groups.{in_group}
 use Rattle.am_index.specs.Lists.{spots_at}
 
@@ -91,10 +97,38 @@ with_keys lists spots (first ∷ others) = with_keys lists (merged spots (spots_
 abbrev pub spots_for : {S : Type 0} → HashMap Key (Vec Spot Global) S → Kind → Intent → List Spot
 spots_for lists kind intent = with_keys lists [] (keys_of kind intent)
 
--- the priority with which the intent finds a component that is listed under one of its keys
-abbrev pub priority_found : Option Component → Kind → Intent → Bool → Decl → Option ℤ
-priority_found (Some component) kind intent need_default decl = Some (pos 0)
-priority_found None kind intent need_default decl = priority_of kind intent need_default decl.filters
+-- what the code looks for, by some rules
+abbrev pub search_by : Rules → Asked → Search
+search_by rules asked = record {
+  rules = rules;
+  kind = asked.kind;
+  intent = asked.intent.now;
+  need_default = asked.need_default;
+}
+
+-- what the code looks for
+abbrev pub search_of : Asked → Search
+search_of asked = search_by asked.rules asked
+
+-- the one of two findings that a phone comes upon first, if there are two
+abbrev pub earlier : Option Finding → Finding → Finding
+earlier None second = second
+earlier (Some first) second = first_of_two first (Some second)
+
+-- how a phone orders two candidates that only the package's name and the order of finding tell apart
+abbrev pub then_name : Candidate → Candidate → Ordering
+then_name a b =
+    ordering_then (slice_cmp nat_cmp a.hit.component.«package» b.hit.component.«package»)
+    (nat_cmp a.finding.cut b.finding.cut)
+
+-- how it orders two that what is reached may tell apart
+abbrev pub then_reach : Candidate → Candidate → Ordering
+then_reach a b = ordering_then (nat_cmp b.finding.reaches a.finding.reaches) (then_name a b)
+
+-- how the intent finds a component that is listed under one of its keys
+abbrev pub finding_found : Search → Option Component → Decl → Option Finding
+finding_found search (Some component) decl = Some (plain_finding (pos 0))
+finding_found search None decl = finding_in search.rules search decl.filters
 
 -- how many tests it takes to find that
 abbrev pub cost_found : Option Component → Intent → Decl → ℕ
@@ -107,22 +141,21 @@ decl_in None position = None
 decl_in (Some owner) position = slice_get owner.decls position
 
 -- what the intent finds in a package at a place
-abbrev pub hit_in : Option Package → Option Decl → ℕ → Kind → Intent → Bool → List Hit
-hit_in (Some owner) (Some decl) place kind intent need_default =
-    hit_at owner place decl (priority_found intent.component kind intent need_default decl)
-hit_in _ _ place kind intent need_default = []
+abbrev pub candidate_in : Search → Option Package → Option Decl → ℕ → List Candidate
+candidate_in search (Some owner) (Some decl) place =
+    candidate_at owner place decl (finding_found search search.intent.component decl)
+candidate_in search _ _ place = []
 
 -- what the intent finds at a spot
-abbrev pub hit_of_spot : List Package → Kind → Intent → Bool → Spot → List Hit
-hit_of_spot packages kind intent need_default spot =
-    hit_in (package_at packages spot.uid) (decl_in (package_at packages spot.uid) spot.position) spot.place kind intent
-    need_default
+abbrev pub candidate_of_spot : Search → List Package → Spot → List Candidate
+candidate_of_spot search packages spot =
+    candidate_in search (package_at packages spot.uid) (decl_in (package_at packages spot.uid) spot.position) spot.place
 
 -- what the intent finds at some spots
-abbrev pub hits_of_spots : List Package → Kind → Intent → Bool → List Spot → List Hit
-hits_of_spots packages kind intent need_default [] = []
-hits_of_spots packages kind intent need_default (first ∷ others) =
-    hit_of_spot packages kind intent need_default first ++ hits_of_spots packages kind intent need_default others
+abbrev pub candidates_of_spots : Search → List Package → List Spot → List Candidate
+candidates_of_spots search packages [] = []
+candidates_of_spots search packages (first ∷ others) =
+    candidate_of_spot search packages first ++ candidates_of_spots search packages others
 
 -- how many tests a component takes
 abbrev pub cost_in : Option Decl → Intent → ℕ

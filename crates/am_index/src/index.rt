@@ -2,14 +2,16 @@
 ghost use Rattle.std.specs.Prelude.{◌≡◌, ◌∷◌, ◌++◌, [], List as Items, ◌+◌, ◌≤◌, IfOk, IsSome, OnOk, OnErr};
 ghost use Rattle.am_types.specs.declared.device.Package.{Package};
 ghost use Rattle.am_model.specs.Boards.{without_package};
-ghost use Rattle.am_model.specs.Candidates.{hits};
+ghost use Rattle.am_model.specs.Candidates.{found_by};
 ghost use Rattle.am_index.specs.Groups.{group_size};
 ghost use Rattle.am_index.specs.Standing.{CanBeListed, CanTake, ListsTheSame, StandsFor};
 
-use crate::found::{by_priority, hits_of_spots};
+use crate::found::candidates_of_spots;
 use crate::lists::{Lists, drop_spots, note_package};
 use crate::lookup::spots_for;
-use am_types::{Hit, Intent, Kind, List, NoMemory, Package, Steps};
+use crate::search::Search;
+use crate::turn::in_turn;
+use am_types::{Candidate, Intent, Kind, List, NoMemory, Package, Rules, Steps};
 use std::alloc::Global;
 use std::collections::HashMap;
 use std::sync::ledger::Ledger;
@@ -65,34 +67,34 @@ impl FilterIndex {
         drop_spots(&mut self.lists, uid);
     }
 
-    /// The components of the kind that the intent finds in the packages of the index,
-    /// by falling priority, then uid, then place. With `need_default` a filter must list the
-    /// default category. Each full test of a filter is a step: at most as many as the intent's
-    /// group has filters, and none if the intent names a component.
+    /// The components of the kind that the intent finds in the packages of the index, in the order
+    /// of the rules: by falling priority first, and at last by uid and place. With `need_default` a
+    /// filter must list the default category. Each full test of a filter is a step: at most as many
+    /// as the intent's group has filters, and none if the intent names a component.
     pub fn candidates<L: Ledger>(
         &self,
         alloc: Global,
+        rules: Rules,
         packages: &List<Package>,
         kind: Kind,
         intent: &Intent,
         need_default: bool,
         steps: &mut Steps<L>,
-    ) -> Result<List<Hit>, NoMemory>
+    ) -> Result<List<Candidate>, NoMemory>
         requires { StandsFor self.now packages.now }
-        ensures hits { IfOk result (λ found. found ≡ hits packages.now kind intent.now need_default) }
+        ensures found { IfOk result
+            (λ found. found ≡ found_by rules packages.now kind intent.now need_default) }
         ensures tests { steps.new ≤ steps.old + group_size packages.now kind intent.now }
         ensures explicit { IsSome intent.now.component → steps.new ≡ steps.old }
     {
-        let spots = spots_for(alloc, &self.lists, kind, intent)?;
-        let found = hits_of_spots(
-            alloc,
-            packages,
+        let search = Search {
+            rules,
             kind,
             intent,
             need_default,
-            spots.as_slice(),
-            steps,
-        )?;
-        by_priority(found)
+        };
+        let spots = spots_for(alloc, &self.lists, kind, intent)?;
+        let found = candidates_of_spots(alloc, packages, &search, spots.as_slice(), steps)?;
+        in_turn(rules, found)
     }
 }

@@ -10,8 +10,8 @@ ghost use Rattle.am_installed.specs.Places.{AreByNumber, place_registered};
 use crate::lists::take;
 use crate::{find, lists, rights};
 use am_types::{
-    Component, Decl, Device, Grant, Kind, Link, List, NoMemory, Package, Registration, Text,
-    drop_parts,
+    Component, Decl, Device, Grant, Kind, Link, List, NoMemory, Package, Registration, Rules,
+    Text, drop_parts,
 };
 use std::alloc::Global;
 use std::marker::Model;
@@ -19,6 +19,7 @@ use std::marker::Model;
 /// What is installed on a device and what was given to it.
 pub struct Installed {
     alloc: Global,
+    rules: Rules,
     packages: List<Package>,
     grants: List<Grant>,
     links: List<Link>,
@@ -30,7 +31,7 @@ pub struct Installed {
 
 impl Drop for Installed {
     fn drop(self) {
-        drop_parts!(self, Installed: alloc packages grants links registered browser protected exempt);
+        drop_parts!(self, Installed: alloc rules packages grants links registered browser protected exempt);
     }
 }
 
@@ -38,6 +39,7 @@ impl Model for Installed {
     ghost Value = { Board };
 
     ghost view = { λ i. record {
+      rules = i.rules;
       packages = i.packages;
       grants = i.grants;
       links = i.links;
@@ -57,6 +59,7 @@ impl Installed {
         ensures { result ≡ board_of device }
     {
         let Device {
+            rules,
             system_key,
             root_key,
             browser,
@@ -70,6 +73,7 @@ impl Installed {
         drop(root_key);
         Installed {
             alloc,
+            rules,
             packages,
             grants,
             links,
@@ -78,6 +82,13 @@ impl Installed {
             protected,
             exempt,
         }
+    }
+
+    /// By whose rules the device answers. Takes no memory.
+    pub fn rules(&self) -> Rules
+        ensures { result ≡ self.now.rules }
+    {
+        self.rules
     }
 
     /// The packages in the order of their uids. Takes no memory.

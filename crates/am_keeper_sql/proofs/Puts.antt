@@ -35,7 +35,7 @@ use Rattle.sqlite_rules.proofs.TableLemmas.{int_is}
 use Rattle.am_keeper.specs.declared.rows.Row.{Row as Kept}
 use Rattle.am_keeper.specs.declared.rows.Row.TheVariants.{Package, Grant, Link}
 use Rattle.am_keeper.specs.Rows.{no_rows, with_row}
-use Rattle.am_keeper_sql.specs.Table.{kept, kept_schema, values_of}
+use Rattle.am_keeper_sql.specs.Table.{kept, kept_schema, upsert_text, values_of}
 use Rattle.am_keeper_sql.specs.Told.{values_for, row_said, shown_in}
 use Rattle.am_keeper_sql.proofs.Said.{AllSay, with_said, said_from, said_in, told_said, all_told}
 use Rattle.am_keeper_sql.specs.Honest.{HoldsTable, Keeps, told_by}
@@ -43,7 +43,7 @@ use Rattle.am_keeper_sql.proofs.Rows.{key, key_of, key-said, key-values_for, val
 use Rattle.am_keeper_sql.proofs.Permuted.{Apart, AreApart, said_from-first, said_from-permuted, still_apart}
 use Rattle.am_keeper_sql.proofs.Places.{placed, taken_out, one_met}
 use Rattle.am_keeper_sql.proofs.Keys.{places, some_is, agree_same, agree_key, says_at, keyed_at, rows_apart}
-use Rattle.am_keeper_sql.proofs.Texts.{updated, is_met, upsert_text}
+use Rattle.am_keeper_sql.proofs.Texts.{updated, is_met}
 use Rattle.am_keeper_sql.proofs.Upserts.{put_row_for, Adds, Replaces, IsUpserted, one_upsert}
 
 either : (b : Bool) (x : Value) → cond b x x ≡ x

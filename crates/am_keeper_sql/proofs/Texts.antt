@@ -18,7 +18,7 @@ use Rattle.sqlite_catalog.specs.Change.{created}
 use Rattle.sqlite_tied.specs.Compute.{everything}
 use Rattle.sqlite.specs.Listing.{understood, reads_listing}
 use Rattle.sqlite.proofs.Callers.{IsPlain, command_of, statement_of}
-use Rattle.am_keeper_sql.specs.Table.{kept, kept_schema, no_schema}
+use Rattle.am_keeper_sql.specs.Table.{kept, kept_schema, no_schema, upsert_text}
 
 -- the query of the update, which shows the old rowid and then the new row
 abbrev pub update_query : Query
@@ -45,9 +45,6 @@ updated read r = column r 0 ∷ column r 0 ∷ column r 1 ∷ column r 2 ∷ col
 
 abbrev pub create_text : List ℕ
 create_text = codes "CREATE TABLE kept (kind INTEGER NOT NULL, uid INTEGER NOT NULL, word TEXT NOT NULL, name TEXT NOT NULL, access TEXT NOT NULL, manifest TEXT NOT NULL, truth INTEGER NOT NULL, PRIMARY KEY (kind, uid, word)) STRICT"
-
-abbrev pub upsert_text : List ℕ
-upsert_text = codes "INSERT INTO kept (kind, uid, word, name, access, manifest, truth) VALUES (?1, ?2, ?3, ?4, ?5, ?6, ?7) ON CONFLICT (kind, uid, word) DO UPDATE SET name = excluded.name, access = excluded.access, manifest = excluded.manifest, truth = excluded.truth"
 
 abbrev pub select_text : List ℕ
 select_text = codes "SELECT kind, uid, word, name, access, manifest, truth FROM kept ORDER BY kind, uid, word"

@@ -27,10 +27,10 @@ use Rattle.sqlite_trees.specs.View.{IsShaped}
 use Rattle.sqlite_trees.specs.declared.store.Shape.TheVariants as shape
 use Rattle.sqlite.specs.State.{State, mode_of, Writes, Executes}
 use Rattle.sqlite.proofs.Callers.{statement_of, runs_as, one_step}
-use Rattle.am_keeper_sql.specs.Table.{kept, kept_schema, no_schema}
+use Rattle.am_keeper_sql.specs.Table.{kept, kept_schema, no_schema, upsert_text}
 use Rattle.am_keeper_sql.specs.Honest.{IsSettled, HoldsTable}
 use Rattle.am_keeper_sql.proofs.Found.{found_are}
-use Rattle.am_keeper_sql.proofs.Texts.{is_met, updated, create_text, create_is, create_plain, upsert_text, upsert_is, upsert_plain, given_terms, clause}
+use Rattle.am_keeper_sql.proofs.Texts.{is_met, updated, create_text, create_is, create_plain, upsert_is, upsert_plain, given_terms, clause}
 
 -- the row of these values, with the next rowid
 abbrev pub put_row_for : List Row → Row → Row

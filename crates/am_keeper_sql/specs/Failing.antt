@@ -1,16 +1,19 @@
 -- What a call on a connection keeps, and why it may fail.
-use Rattle.std.specs.Prelude.{◌≡◌, ◌≢◌, ◌⊎◌, ◌≤◌, IsTrue, [], Some, None}
+use Rattle.std.specs.Prelude.{◌≡◌, ◌≢◌, ◌⊎◌, ◌≤◌, IsTrue, [], Some, None, Result, Err}
 use Rattle.sqlite_disk.specs.Disk.{MoreFaults}
 use Rattle.sqlite.specs.Store.{Ghosts}
 use Rattle.sqlite.specs.Order.{Row}
 use Rattle.sqlite.specs.Held.{Held, state}
-use Rattle.sqlite.specs.State.{State, HasCleanDisk, Opens, IsLive, IsUnchanged}
+use Rattle.sqlite.specs.State.{State, HasCleanDisk, Opens, IsLive, IsUnchanged, Executes}
 use Rattle.sqlite.specs.Given.{Advances, FailsToAdvance}
 use Rattle.sqlite.specs.declared.error.Error.{Error}
 use Rattle.sqlite.specs.declared.error.Error.TheVariants.{SqliteFailure}
 use Rattle.sqlite.specs.declared.error.ErrorCode.TheVariants.{OutOfMemory}
+use Rattle.am_keeper.specs.declared.failure.KeepFail.{KeepFail}
+use Rattle.am_keeper.specs.declared.failure.KeepFail.TheVariants.{Failed}
+use Rattle.am_keeper.specs.declared.rows.Row.{Row as Kept}
 use Rattle.am_keeper.specs.declared.rows.Rows.{Rows}
-use Rattle.am_keeper_sql.specs.Table.{kept_schema, no_schema}
+use Rattle.am_keeper_sql.specs.Table.{kept_schema, no_schema, upsert_text}
 use Rattle.am_keeper_sql.specs.Told.{row_said, told_in}
 use Rattle.am_keeper_sql.specs.Honest.{HasRisingRows}
 use Rattle.am_keeper_sql.specs.Image.{HasRows}
@@ -43,6 +46,16 @@ FailsToMove g old new =
 -- the disk had a fault, or a row of the table isn't a kept row
 abbrev pub FailsToTell : State → State → Type 0
 FailsToTell old new = MoreFaults old.faults new.faults ⊎ (told_in old.now.trees ≡ None)
+
+-- the database didn't execute the statement that puts the row, for another reason than memory
+abbrev pub FailsToPut : State → State → Kept → Type 0
+FailsToPut old new row =
+    (values : Row) × (row_said values ≡ Some row) × (e : Error) × (e ≢ SqliteFailure OutOfMemory)
+    × Executes upsert_text values old new (Err e)
+
+-- a put that fails fails for that reason
+abbrev pub FailsToPutOnly : {X : Type 0} → State → State → Kept → Result X KeepFail → Type 0
+FailsToPutOnly old new row r = HasCleanDisk new → r ≡ Err Failed → FailsToPut old new row
 
 -- the table was there and nothing changed, or nothing was there and the table was made, without a row
 abbrev pub Begins : State → State → Type 0

@@ -47,6 +47,10 @@ kept_schema = record { tables = kept ∷ []; indexes = kept_index ∷ []; views 
 abbrev pub no_schema : Schema
 no_schema = record { tables = []; indexes = []; views = [] }
 
+-- the statement that puts a row, whose seven values are its parameters
+abbrev pub upsert_text : List ℕ
+upsert_text = codes "INSERT INTO kept (kind, uid, word, name, access, manifest, truth) VALUES (?1, ?2, ?3, ?4, ?5, ?6, ?7) ON CONFLICT (kind, uid, word) DO UPDATE SET name = excluded.name, access = excluded.access, manifest = excluded.manifest, truth = excluded.truth"
+
 -- the seven values of a row, after its rowid
 abbrev pub values_of : Row → Row
 values_of r = column r 1 ∷ column r 2 ∷ column r 3 ∷ column r 4 ∷ column r 5 ∷ column r 6 ∷ column r 7 ∷ []

@@ -11,7 +11,7 @@ ghost use Rattle.am_keeper_sql.specs.Honest.{IsHonest, IsSettled, HoldsTable, Ha
 ghost use Rattle.am_keeper_sql.specs.Faults.{told_as};
 ghost use Rattle.am_keeper_sql.specs.Told.{told_in};
 ghost use Rattle.am_keeper_sql.specs.Image.{HasRows};
-ghost use Rattle.am_keeper_sql.specs.Failing.{Lasts, IsReady, Begins, FailsToBegin};
+ghost use Rattle.am_keeper_sql.specs.Failing.{Lasts, IsReady, Begins, FailsToBegin, FailsToPutOnly};
 
 use crate::{cells, shape, table};
 use am_keeper::{KeepFail, Row, Rows};
@@ -82,7 +82,7 @@ pub(crate) fn begin<S: Alter + Drop>(
     }
 }
 
-/// Puts a row. A failure leaves the rows as they were.
+/// Puts a row. A failure leaves the rows as they were, and comes only if the database didn't execute the statement.
 pub(crate) fn put<S: Alter>(
     alloc: Global,
     conn: &mut Connection<S>,
@@ -91,6 +91,8 @@ pub(crate) fn put<S: Alter>(
     ensures honest { IsHonest (state S.Store conn.new) → IsHonest (state S.Store conn.old) }
     ensures put { PutsInto (state S.Store conn.old) (state S.Store conn.new) row.now result }
     ensures failed { FailsUnseen (state S.Store conn.old) (state S.Store conn.new) result }
+    ensures lasts { Lasts (state S.Store conn.old) (state S.Store conn.new) }
+    ensures cause { FailsToPutOnly (state S.Store conn.old) (state S.Store conn.new) row.now result }
 {
     let Ok(cells) = row_cells(alloc, row) else {
         return Err(KeepFail::NoMemory);

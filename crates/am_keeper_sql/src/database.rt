@@ -2,6 +2,7 @@
 ghost use Rattle.std.specs.Prelude.{◌≡◌, ◌↔◌, Some, IfOk};
 ghost use Rattle.am_keeper.specs.Rows.{IsInOrder};
 ghost use Rattle.am_keeper_sql.specs.Honest.{IsHonest, IsSettled, HoldsTable, PutsInto, FailsUnseen, StaysSeen, IsHonestForGood, state_of};
+ghost use Rattle.am_keeper_sql.specs.Failing.{Lasts, FailsToPutOnly};
 ghost use Rattle.am_keeper_sql.specs.Told.{told_in};
 
 use crate::{connection, table};
@@ -17,11 +18,13 @@ pub(crate) enum Database<F: Alter> {
 }
 
 impl<F: Alter> Database<F> {
-    /// Puts a row. A failure leaves the rows as they were.
+    /// Puts a row. A failure leaves the rows as they were, and comes only if the database didn't execute the statement.
     pub fn put(&mut self, alloc: Global, row: &Row) -> Result<(), KeepFail>
         ensures honest { IsHonest (state_of F.Store self.new) → IsHonest (state_of F.Store self.old) }
         ensures put { PutsInto (state_of F.Store self.old) (state_of F.Store self.new) row.now result }
         ensures failed { FailsUnseen (state_of F.Store self.old) (state_of F.Store self.new) result }
+        ensures lasts { Lasts (state_of F.Store self.old) (state_of F.Store self.new) }
+        ensures cause { FailsToPutOnly (state_of F.Store self.old) (state_of F.Store self.new) row.now result }
         ensures for_good { IsHonestForGood F.Store self.new ↔ IsHonestForGood F.Store self.old }
     {
         match self {

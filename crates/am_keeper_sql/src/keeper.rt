@@ -3,12 +3,13 @@ ghost use Rattle.std.specs.Prelude.{◌≡◌, ◌≢◌, ◌↔◌, ◌≤◌, 
 ghost use Rattle.am_keeper.specs.Rows.{IsInOrder, with_row};
 ghost use Rattle.am_keeper.specs.Keeping.{Puts, raised_by};
 ghost use Rattle.am_keeper_sql.specs.Faults.{faults_after};
+ghost use Rattle.am_keeper_sql.specs.Failing.{Lasts, FailsToPutOnly};
 ghost use Rattle.am_keeper_sql.specs.Told.{told_in};
 ghost use Rattle.am_keeper_sql.specs.Honest.{IsHonest, Keeps, IsInMemory, IsHonestForGood, state_of, told_by};
 
 use crate::connection;
 use crate::database::Database;
-use am_keeper::{GrantRow, KeepFail, Keeper, LinkRow, PackageRow, Row, Rows};
+use am_keeper::{KeepFail, Row, Rows};
 use am_types::{Text, drop_parts};
 use sqlite::{Alter, File, FileStore};
 use sqlite_disk::Disk;
@@ -26,7 +27,7 @@ fn count_fault<T>(faults: &mut u64, done: &Result<T, KeepFail>)
 }
 
 /// Counts a put, whatever its result will be.
-fn count_put(puts: &mut u64)
+pub(crate) fn count_put(puts: &mut u64)
     ensures { puts.new ≡ raised_by 1 puts.old }
 {
     *puts = puts.saturating_add(1);
@@ -34,7 +35,8 @@ fn count_put(puts: &mut u64)
 
 /// A keeper over a SQL database, in memory or in a file over a store `F`. Its store is honest as
 /// long as the disk returns what was written and no fault has shut the connection; memory is
-/// honest for good. After a fault has shut the connection, every further call is a fault.
+/// honest for good. Only a fault shuts the connection, and then every further call is a fault. A put
+/// fails only if the database didn't execute its statement.
 pub struct SqlKeeper<F: Alter = FileStore<File>> {
     pub(crate) database: Database<F>,
     pub(crate) place: Option<Text>,
@@ -78,7 +80,7 @@ impl<F: Alter> SqlKeeper<F> {
     }
 
     /// Puts a row.
-    fn put_row(&mut self, row: Row) -> Result<(), KeepFail>
+    pub(crate) fn put_row(&mut self, row: Row) -> Result<(), KeepFail>
         ensures rows { IsHonest (state_of F.Store self.new.database)
             → Puts (λ told. with_row told row) (Some (told_by (state_of F.Store self.old.database)))
             (Some (told_by (state_of F.Store self.new.database))) result }
@@ -89,42 +91,13 @@ impl<F: Alter> SqlKeeper<F> {
         ensures counts { self.new.faults ≡ faults_after self.old.faults result }
         ensures never_falls { self.old.faults ≤ self.new.faults }
         ensures only_failed { result ≢ Err KeepFail.Failed → self.new.faults ≡ self.old.faults }
+        ensures lasts { Lasts (state_of F.Store self.old.database) (state_of F.Store self.new.database) }
+        ensures cause { FailsToPutOnly (state_of F.Store self.old.database) (state_of F.Store self.new.database) row result }
     {
         let done = self.database.put(self.alloc, &row);
         drop(row);
         count_fault(&mut self.faults, &done);
         done
-    }
-}
-
-impl<F: Alter + Drop> Keeper for SqlKeeper<F> {
-    ghost rows = { λ k. Some (told_by (state_of F.Store k.database)) };
-
-    ghost place = { λ k. k.place };
-
-    ghost is_honest = { λ k. IsHonest (state_of F.Store k.database) };
-
-    ghost stays_honest = { λ k. IsHonestForGood F.Store k.database };
-
-    ghost faults = { λ k. k.faults };
-
-    ghost puts = { λ k. k.puts };
-
-    ghost honest_by_nature = { λ k h. h.honest };
-
-    fn put_package(&mut self, row: &PackageRow) -> Result<(), KeepFail> {
-        count_put(&mut self.puts);
-        self.put_row(Row::Package(row.clone()?))
-    }
-
-    fn put_grant(&mut self, row: &GrantRow) -> Result<(), KeepFail> {
-        count_put(&mut self.puts);
-        self.put_row(Row::Grant(row.clone()?))
-    }
-
-    fn put_link(&mut self, row: &LinkRow) -> Result<(), KeepFail> {
-        count_put(&mut self.puts);
-        self.put_row(Row::Link(row.clone()?))
     }
 }
 

@@ -6,6 +6,7 @@ mod cells;
 mod connection;
 mod database;
 mod keeper;
+mod putting;
 mod shape;
 mod table;
 

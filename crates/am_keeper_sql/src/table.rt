@@ -1,11 +1,11 @@
 //! The one table of a store, and its three SQL statements.
 ghost use Rattle.std.specs.Prelude.{◌≡◌, [], Some, None, Err, IsTrue, IfOk, IfErr, OnOk, OnErr};
 ghost use Rattle.sqlite.specs.Held.{state};
-ghost use Rattle.sqlite.specs.State.{HasCleanDisk};
+ghost use Rattle.sqlite.specs.State.{HasCleanDisk, Executes};
 ghost use Rattle.sqlite.specs.Values.{bound};
 ghost use Rattle.am_keeper.specs.declared.rows.Row.{Row as Kept};
 ghost use Rattle.am_keeper.specs.Rows.{IsInOrder, with_row};
-ghost use Rattle.am_keeper_sql.specs.Table.{no_schema, kept_schema};
+ghost use Rattle.am_keeper_sql.specs.Table.{no_schema, kept_schema, upsert_text};
 ghost use Rattle.am_keeper_sql.specs.Failing.{Lasts, FailsOnly, FailsToTell};
 ghost use Rattle.am_keeper_sql.specs.Told.{row_said, told_in};
 ghost use Rattle.am_keeper_sql.specs.Honest.{IsHonest, IsSettled, HoldsTable, Keeps, StaysSeen, told_by};
@@ -47,6 +47,9 @@ pub(crate) fn upsert<S: Alter>(
         × (told_by (state S.Store conn.new) ≡ with_row (told_by (state S.Store conn.old)) row)) }
     ensures refused { IsHonest (state S.Store conn.new) → IsSettled (state S.Store conn.old)
         → OnErr result (StaysSeen (state S.Store conn.old) (state S.Store conn.new)) }
+    ensures lasts { Lasts (state S.Store conn.old) (state S.Store conn.new) }
+    ensures failed { HasCleanDisk (state S.Store conn.new)
+        → IfErr result (λ e. Executes upsert_text (bound values.now) (state S.Store conn.old) (state S.Store conn.new) (Err e)) }
 {
     conn.execute(
         "INSERT INTO kept (kind, uid, word, name, access, manifest, truth) VALUES (?1, ?2, ?3, ?4, ?5, ?6, ?7) ON CONFLICT (kind, uid, word) DO UPDATE SET name = excluded.name, access = excluded.access, manifest = excluded.manifest, truth = excluded.truth",

@@ -38,7 +38,7 @@ use Rattle.am_history.specs.Services.{running, with_start, start_service}
 use Rattle.am_history.specs.BroadcastCalls.{sending_of, after_send, send_to, send, after_finish, finish}
 use Rattle.am_history.specs.PendingCalls.{lend, left_of, used_up, after_use, pending_send}
 use Rattle.am_laws.proofs.Answered.{either_leaves}
-use Rattle.am_laws.proofs.NextTokens.{cancel_keeps, used_up_keeps}
+use Rattle.am_laws.proofs.Tokens.{AreLeft, cancel_keeps, used_up_keeps}
 use Rattle.am_laws.proofs.Starts.{StartComes, start_refused, start_left, start_lands, start_comes, ServiceComes, service_refused, service_runs, service_comes}
 
 module _ (P : State → Type 0) (state : State) (caller : ℕ) (intent : Intent) (here : P state) where
@@ -106,7 +106,7 @@ module _ (P : State → Type 0) (state : State) (caller : ℕ) (intent : Intent)
 
 -- what holds after all that is done for a creator holds after the use of a token
 pub use_cases : (P : State → Type 0) (state : State) (caller token : ℕ) (fill : Option Intent) → P state
-    → ((after : State) (left : Pendings) → left.next ≡ after.pendings.next → P after
+    → ((after : State) (left : Pendings) → AreLeft after.pendings left → P after
     → P (record after { pendings = left }))
     → ((used : Used) → pendings.use_token state.pendings token caller fill ≡ Ok used
     → P (lend state used.creator used.intent used.kind).1)

@@ -2,7 +2,7 @@ pub mod Tests
 pub mod Answered
 pub mod Packages
 pub mod NextBroadcasts
-pub mod NextTokens
+pub mod Tokens
 pub mod Starts
 pub mod Cases
 pub mod Requests
@@ -10,6 +10,7 @@ pub mod Histories
 pub mod Openings
 pub mod NumberParts
 pub mod NumberSteps
+pub mod Uids
 pub mod Numbers
 pub mod Moments
 pub mod Outcomes

@@ -27,6 +27,7 @@ use Rattle.am_history.specs.Numbers.{HasNumbersTo}
 use Rattle.am_laws.proofs.NextBroadcasts.{expired_keeps, forget_keeps, forget_uid_keeps, finished_keeps, sent_gives_one}
 use Rattle.am_laws.proofs.NumberParts.{bounded, next_bound, with_installed, with_other_packages, with_tasks, with_broadcasts, with_pendings, with_services, with_receivers}
 use Rattle.am_laws.proofs.Requests.{Steps}
+use Rattle.am_laws.proofs.Tokens.{GotTo, get_gives_one}
 
 -- the next numbers of tasks and of instances are at most that
 abbrev HasTaskNumbersTo : ℕ → Tasks → Type 0
@@ -176,7 +177,7 @@ module _ (n : ℕ) (state : State) (has : HasNumbersTo n state) where
         same same.tasks same.instances;
     unserved = λ keeps. with_services (n + 1) state (filter keeps state.services) same
         (All-filter keeps (StartsTo (n + 1)) state.services same.starts);
-    registered = λ filter permission.
+    registered = λ filter permission asked.
         registered_numbers (record {
           number = state.next_registration;
           uid = caller;
@@ -188,11 +189,11 @@ module _ (n : ℕ) (state : State) (has : HasNumbersTo n state) where
     finished = λ number answer holder asked is own.
         same_broadcasts (finished state.broadcasts number answer state.moment)
         (finished_keeps state.broadcasts number answer state.moment);
-    got = λ left more.
-        with_pendings (n + 1) state left same (let few : state.pendings.next ≤ n = has.tokens in omega arith);
+    got = λ kind code intent flags got asked is. with_pendings (n + 1) state got.1 same
+        (subst (GotTo (n + 1)) is (get_gives_one n state.pendings _ has.tokens));
     changed = λ after left kept one. with_pendings (n + 1) after left one
-        (subst (λ m. m ≤ n + 1) (sym kept) one.tokens);
-    installed = λ text key manifest is name_unused key_unused room.
+        (subst (λ m. m ≤ n + 1) (sym kept.next) one.tokens);
+    installed = λ text key manifest asked admin is name_unused key_unused room.
         with_installed (n + 1) state (state.board.packages ++ installed state manifest key ∷ []) state.board.grants
         state.board.links (state.next_uid + 1) same;
     gone = λ uid.

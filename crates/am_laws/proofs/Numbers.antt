@@ -6,17 +6,16 @@ use Rattle.am_types.specs.Bounds.{greatest_number}
 use Rattle.am_types.specs.declared.device.Device.{Device}
 use Rattle.am_types.specs.declared.resolve.Registration.{Registration}
 use Rattle.am_types.specs.declared.history.Entry.{Entry}
-use Rattle.am_types.specs.declared.request.Request.{Request}
 use Rattle.am_model.specs.Boards.{Board}
 use Rattle.am_history.specs.State.{State, Service, opening}
-use Rattle.am_history.specs.Steps.{act, after_due, moment_after, step}
+use Rattle.am_history.specs.Steps.{after_due, moment_after, step}
 use Rattle.am_history.specs.History.{replay, replay_from}
 use Rattle.am_history.specs.Desks.{Origin, opening_of}
 use Rattle.am_history.specs.Numbers.{HasNumbersTo, HasNumbers}
 use Rattle.am_laws.proofs.NumberParts.{bounded, raised, next_bound}
 use Rattle.am_laws.proofs.NumberSteps.{moment_keeps_numbers, numbers_after}
 use Rattle.am_laws.proofs.Openings.{opening_leaves}
-use Rattle.am_laws.proofs.Requests.{act_leaves, step_leaves}
+use Rattle.am_laws.proofs.Requests.{step_leaves}
 
 -- the device's own state has given out no number
 opening_starts : (device : Device) → HasNumbersTo 1 (opening device)
@@ -41,13 +40,6 @@ opening_has_numbers origin = opening_leaves (HasNumbersTo 1) stays origin (openi
         has.tasks has.instances has.broadcasts has.tokens has.registrations has.starts
         (subst (λ (l : List Registration). All (λ (r : Registration). r.number < state.next_registration) l) (sym same)
         has.registered)
-
--- a request raises each number by one at most
-pub act_keeps_numbers : (n : ℕ) (state : State) (before : List Entry) (caller : ℕ) (request : Request)
-    → HasNumbersTo n state
-    → HasNumbersTo (n + 1) (act state before caller request).1
-act_keeps_numbers n state before caller request has = act_leaves (HasNumbersTo (n + 1)) state caller before request
-    (numbers_after n state has caller request)
 
 -- one step raises each by one at most
 pub step_keeps_numbers : (n : ℕ) (state : State) (before : List Entry) (entry : Entry) → HasNumbersTo n state

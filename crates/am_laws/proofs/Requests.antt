@@ -1,5 +1,5 @@
 -- What a request leaves is the state as it was, or what one of a few steps made of it: so what holds after these holds.
-use Rattle.std.proofs.Common.{◌≡◌, ℕ, ◌+◌, ◌≤◌, Bool, true, false, not, ◌&&◌, ◌||◌, cond, List, [], ◌∷◌, ◌++◌, refl, ap, arith}
+use Rattle.std.proofs.Common.{◌≡◌, ℕ, ◌+◌, ◌≤◌, ℤ, Bool, true, false, not, ◌&&◌, ◌||◌, cond, List, [], ◌∷◌, ◌++◌, refl, ap}
 use Rattle.std.specs.Prelude.{Option, Some, None, Result, Ok, Err, ◌==◌, nat_le, filter}
 use Rattle.std.specs.List.{find}
 use Rattle.std.proofs.lemmas.Bool.{leb-true}
@@ -17,6 +17,7 @@ use Rattle.am_types.specs.declared.resolve.Registration.{Registration}
 use Rattle.am_types.specs.declared.broadcast.Answer.{Answer}
 use Rattle.am_types.specs.declared.broadcast.Ordered.{Ordered}
 use Rattle.am_types.specs.declared.pending.PendingFault.{PendingFault}
+use Rattle.am_types.specs.declared.pending.PendingFlags.{PendingFlags}
 use Rattle.am_types.specs.declared.task.Landed.{Landed}
 use Rattle.am_types.specs.declared.task.TaskFault.{TaskFault}
 use Rattle.am_types.specs.declared.task.TaskFault.TheVariants.{NotYours}
@@ -36,7 +37,7 @@ use Rattle.am_model.specs.Tasks.{Instance, Tasks, owner, may_end, ended, tasks_k
 use Rattle.am_model.specs.Placement.{place}
 use Rattle.am_model.specs.Sending.{Held, held, with_sent, finished}
 use Rattle.am_model.specs.Pendings as pendings
-use Rattle.am_model.specs.Pendings.{Pendings, Asked}
+use Rattle.am_model.specs.Pendings.{Pendings}
 use Rattle.am_manifest.specs.Manifests.{manifest_of}
 use Rattle.am_history.specs.State.{State, Service, with_packages}
 use Rattle.am_history.specs.Answers.{refused, done, for_admin, for_package}
@@ -50,7 +51,7 @@ use Rattle.am_history.proofs.OnlyReads.{act_reads, reading_leaves}
 use Rattle.am_laws.specs.Access.{Starts, Serves, Sends, lent_deed, deed_of, used_deed}
 use Rattle.am_laws.proofs.Answered.{either_leaves, unless_leaves, admin_leaves, package_leaves}
 use Rattle.am_laws.proofs.Cases.{start_cases, service_cases, send_cases, use_cases, finish_cases}
-use Rattle.am_laws.proofs.NextTokens.{GotTo, Keeps, get_gives_one, cancel_keeps, give_keeps}
+use Rattle.am_laws.proofs.Tokens.{AreLeft, Keeps, cancel_keeps, give_keeps}
 use Rattle.am_laws.proofs.Packages.{named_is_live}
 use Rattle.am_laws.proofs.Tests.{neither}
 
@@ -97,7 +98,7 @@ pub record Steps (P : State → Type 0) (state : State) (caller : ℕ) (request 
         { tasks = tasks_keeping keeps state.tasks.tasks };
   })
   pub unserved : (keeps : Service → Bool) → P (record state { services = filter keeps state.services })
-  pub registered : (filter : Filter) (permission : Option (List ℕ))
+  pub registered : (filter : Filter) (permission : Option (List ℕ)) → request ≡ asks.Register filter permission
       → P (record (with_registered state (state.board.registered ++ record
       { number = state.next_registration; uid = caller; filter = filter; permission = permission } ∷ [])) {
         next_registration = state.next_registration + 1;
@@ -106,10 +107,15 @@ pub record Steps (P : State → Type 0) (state : State) (caller : ℕ) (request 
   pub finished : (number : ℕ) (answer : Answer) (holder : Held) → request ≡ asks.Finish number answer
       → held state.broadcasts number ≡ Some holder → holder.uid ≡ caller
       → P (record state { broadcasts = finished state.broadcasts number answer state.moment })
-  pub got : (left : Pendings) → left.next ≤ state.pendings.next + 1 → P (record state { pendings = left })
-  pub changed : (after : State) (left : Pendings) → left.next ≡ after.pendings.next → P after
+  pub got : (kind : Kind) (code : ℤ) (intent : Intent) (flags : PendingFlags) (got : Option ℕ × Pendings)
+      → request ≡ asks.PendingGet kind code intent flags
+      → pendings.get state.pendings (record { creator = caller; kind = kind; code = code; intent = intent; flags = flags })
+      ≡ Ok got
+      → P (record state { pendings = got.1 })
+  pub changed : (after : State) (left : Pendings) → AreLeft after.pendings left → P after
       → P (record after { pendings = left })
-  pub installed : (text key : List ℕ) (manifest : Manifest) → manifest_of text ≡ Ok manifest
+  pub installed : (text key : List ℕ) (manifest : Manifest) → request ≡ asks.Install text key
+      → is_privileged caller ≡ true → manifest_of text ≡ Ok manifest
       → is_name_used state.board.packages manifest.«package» ≡ false
       → is_key_used state key ≡ false → is_full state ≡ false
       → P (record (with_packages state (state.board.packages ++ installed state manifest key ∷ []))
@@ -143,12 +149,12 @@ module _ (Q : Tasks → List Service → ℕ → Type 0) (state : State) (caller
     sent = λ sender intent permission ordered did unprotected. here;
     ended = keeping;
     unserved = left;
-    registered = λ filter permission. here;
+    registered = λ filter permission asked. here;
     taken_back = λ found. here;
     finished = λ number answer holder asked is own. here;
-    got = λ left few. here;
+    got = λ kind code intent flags got asked is. here;
     changed = λ after left same one. one;
-    installed = λ text key manifest is name_unused key_unused room. here;
+    installed = λ text key manifest asked admin is name_unused key_unused room. here;
     gone = forgotten;
     stopped = forgotten;
     granted = λ uid permission held live room. here;
@@ -213,24 +219,18 @@ module _ (P : State → Type 0) (state : State) (caller : ℕ) where
       by creator intent kinds.Receiver did = send_cases P state creator intent steps.here None None
           (steps.sent creator intent None None did)
 
-  -- after a token was asked for
-  got_leaves : (request : Request) (got : Result (Option ℕ × Pendings) PendingFault)
-      → GotTo (state.pendings.next + 1) got → Steps P state caller request → P (after_get state got).1
-  got_leaves request (Err fault) few steps = steps.here
-  got_leaves request (Ok got) few steps = steps.got got.1 few
-
   -- after a change of the records
-  change_leaves : (request : Request) (left : Result Pendings PendingFault) → Keeps state.pendings.next left
+  change_leaves : (request : Request) (left : Result Pendings PendingFault) → Keeps state.pendings left
       → Steps P state caller request → P (after_change state left).1
   change_leaves request (Err fault) same steps = steps.here
   change_leaves request (Ok left) same steps = steps.changed state left same steps.here
 
   -- a package whose manifest was read
-  read_leaves : (request : Request) (text key : List ℕ) (manifest : Result Manifest ManifestFault) → manifest_of text
-      ≡ manifest → Steps P state caller request
+  read_leaves : (text key : List ℕ) (manifest : Result Manifest ManifestFault) → manifest_of text ≡ manifest
+      → Steps P state caller (asks.Install text key) → is_privileged caller ≡ true
       → P (install_read state key manifest).1
-  read_leaves request text key (Err fault) is steps = steps.here
-  read_leaves request text key (Ok manifest) is steps =
+  read_leaves text key (Err fault) is steps admin = steps.here
+  read_leaves text key (Ok manifest) is steps admin =
       by (is_name_used state.board.packages manifest.«package» || is_key_used state key) (is_full state) refl refl
     where
       more : Reply × State
@@ -248,7 +248,7 @@ module _ (P : State → Type 0) (state : State) (caller : ℕ) where
       by false true unused room = steps.here
       by false false unused room =
           let parts = neither (is_name_used state.board.packages manifest.«package») (is_key_used state key) unused in
-          steps.installed text key manifest is parts.0 parts.1 room
+          steps.installed text key manifest refl admin is parts.0 parts.1 room
 
   -- a right of a package that is given or taken, unless there are too many
   right_leaves : (name : List ℕ) (limit : Limit) (many : Package → Bool) (after : Package → State) → P state
@@ -303,7 +303,7 @@ module _ (P : State → Type 0) (state : State) (caller : ℕ) where
       send_cases P state caller intent steps.here permission ordered (steps.sent caller intent permission ordered refl)
   act_leaves before (asks.Register filter permission) steps =
       either_leaves P (nat_le 64 (count_of state.board.registered caller))
-      (refused state (rules.OverLimit limits.Registered)) _ steps.here (steps.registered filter permission)
+      (refused state (rules.OverLimit limits.Registered)) _ steps.here (steps.registered filter permission refl)
   act_leaves before (asks.Unregister number) steps = by (find (λ (r : Registration). r.number == number)
       state.board.registered)
     where
@@ -312,12 +312,15 @@ module _ (P : State → Type 0) (state : State) (caller : ℕ) where
       by (Some found) = either_leaves P (found.uid == caller) (done (taken_back state found))
           (refused state rules.NotYours) (steps.taken_back found) steps.here
   act_leaves before (asks.Finish delivery answer) steps = finish_leaves delivery answer steps
-  act_leaves before (asks.PendingGet kind code intent flags) steps =
-      got_leaves _ (pendings.get state.pendings asked) (get_gives_one state.pendings.next state.pendings asked
-      (omega arith)) steps
+  act_leaves before (asks.PendingGet kind code intent flags) steps = by (pendings.get state.pendings (record
+      { creator = caller; kind = kind; code = code; intent = intent; flags = flags })) refl
     where
-      asked : Asked
-      asked = record { creator = caller; kind = kind; code = code; intent = intent; flags = flags }
+      by : (got : Result (Option ℕ × Pendings) PendingFault)
+          → pendings.get state.pendings (record
+          { creator = caller; kind = kind; code = code; intent = intent; flags = flags }) ≡ got
+          → P (after_get state got).1
+      by (Err fault) is = steps.here
+      by (Ok got) is = steps.got kind code intent flags got refl is
   act_leaves before (asks.PendingSend token fill) steps = pending_send_leaves token fill steps
   act_leaves before (asks.PendingCancel token) steps = change_leaves _ (pendings.cancel state.pendings token caller)
       (cancel_keeps state.pendings token caller) steps
@@ -325,9 +328,12 @@ module _ (P : State → Type 0) (state : State) (caller : ℕ) where
       package_leaves P state name _ steps.here
       (λ to is. change_leaves _ (pendings.give state.pendings token caller to.uid)
       (give_keeps state.pendings token caller to.uid) steps)
-  act_leaves before (asks.Install text key) steps =
-      admin_leaves P state caller (install_read state key (manifest_of text)) steps.here
-      (read_leaves _ text key (manifest_of text) refl steps)
+  act_leaves before (asks.Install text key) steps = by (is_privileged caller) refl
+    where
+      by : (admin : Bool) → is_privileged caller ≡ admin
+          → P (cond admin (install_read state key (manifest_of text)) (refused state rules.AdminOnly)).1
+      by true admin = read_leaves text key (manifest_of text) refl steps admin
+      by false admin = steps.here
   act_leaves before (asks.Uninstall name) steps = admin_leaves P state caller _ steps.here
       (package_leaves P state name _ steps.here (λ owner is. steps.gone owner.uid))
   act_leaves before (asks.Grant name permission held) steps =

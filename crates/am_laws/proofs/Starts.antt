@@ -21,7 +21,7 @@ use Rattle.am_model.specs.Boards.{with_stopped}
 use Rattle.am_model.specs.Candidates.{hits}
 use Rattle.am_model.specs.Gates.{Verdict, Admit, NotExported, NeedsPermission, verdict}
 use Rattle.am_model.specs.Receivers.{declared, rule_of, or_rule}
-use Rattle.am_model.specs.Targets.{target}
+use Rattle.am_model.specs.Starts.{target}
 use Rattle.am_model.specs.Tasks.{Tasks, owner, may_end}
 use Rattle.am_model.specs.Placement.{place}
 use Rattle.am_history.specs.State.{State, with_packages}
@@ -159,7 +159,7 @@ module _ (state : State) (caller : ℕ) (intent : Intent) where
           → StartComes state caller intent source (activities.start_aimed state caller intent source aim)
       by (Some component) = maybe component rules.NoComponent (declared state.board.packages kinds.Activity component)
           refl refl
-      by None = targeted (target state.board intent)
+      by None = targeted (target state.board caller intent)
 
   -- a start of a service
   pub service_comes : ServiceComes state caller intent (start_service state caller intent)
@@ -188,5 +188,5 @@ module _ (state : State) (caller : ℕ) (intent : Intent) where
           → ServiceComes state caller intent (services.start_aimed state caller intent aim name)
       by (Some component) name = maybe component rules.NoComponent
           (declared state.board.packages kinds.Service component) refl refl
-      by None (Some name) = first (hits state.board.packages kinds.Service intent false)
+      by None (Some name) = first (hits state.board.rules state.board.packages kinds.Service intent false)
       by None None = service_refused rules.ImplicitService refl

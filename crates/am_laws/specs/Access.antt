@@ -3,9 +3,11 @@ use Rattle.std.specs.Prelude.{◌≡◌, ℕ, true, false, not, ◌&&◌, List, 
 use Rattle.std.specs.List.{Contains}
 use Rattle.am_types.specs.declared.intent.Intent.{Intent}
 use Rattle.am_types.specs.declared.intent.Component.{Component}
+use Rattle.am_types.specs.declared.device.Package.{Package}
 use Rattle.am_types.specs.declared.manifest.Decl.{Decl}
 use Rattle.am_types.specs.declared.manifest.Kind.{Kind}
 use Rattle.am_types.specs.declared.manifest.Kind.TheVariants as kinds
+use Rattle.am_types.specs.declared.manifest.Manifest.{Manifest}
 use Rattle.am_types.specs.declared.broadcast.Spot.{Spot}
 use Rattle.am_types.specs.declared.broadcast.Ordered.{Ordered}
 use Rattle.am_types.specs.declared.pending.Used.{Used}
@@ -18,7 +20,9 @@ use Rattle.am_model.specs.Receivers.{declared, receivers, admitted, is_protected
 use Rattle.am_model.specs.Broadcasts.{Broadcasts, Normal, Delivery, InTurn, Past}
 use Rattle.am_model.specs.Tasks.{Instance, Task}
 use Rattle.am_model.specs.Pendings.{use_token}
+use Rattle.am_manifest.specs.Manifests.{manifest_of}
 use Rattle.am_history.specs.State.{State, Service}
+use Rattle.am_history.specs.Packages.{installed}
 use Rattle.am_history.specs.PendingCalls.{in_new_task}
 use Rattle.am_history.specs.Steps.{after_due}
 use Rattle.am_history.specs.History.{replay}
@@ -84,6 +88,16 @@ IsStarted component owner intent state deed = IsLetIn kinds.Activity Starts comp
 -- a uid starts the service of a package by that intent, and the gate admits it
 abbrev pub IsServed : Component → ℕ → Intent → State → Deed → Type 0
 IsServed component owner intent state deed = IsLetIn kinds.Service Serves component owner intent state deed
+
+-- the entry, of the system or the root, installed the package from a manifest, with the next uid
+pub record IsInstalledBy (state : State) (entry : Entry) (p : Package) : Type 0 where
+  pub kept : entry.kept ≡ true
+  pub admin : is_privileged entry.uid ≡ true
+  pub text : List ℕ
+  pub asked : entry.request ≡ asks.Install text p.key
+  pub manifest : Manifest
+  pub reads : manifest_of text ≡ Ok manifest
+  pub is : p ≡ installed state manifest p.key
 
 -- this holds for each receiver of an ordered broadcast, past or left
 pub record OfTurn (B : ℕ → Intent → Spot → Type 0) (b : InTurn) : Type 0 where

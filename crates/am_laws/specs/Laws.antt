@@ -21,10 +21,19 @@ abbrev pub answer_after : Origin → List Entry → Entry → Reply × State
 answer_after origin history entry =
     ((step (state_after origin history) history entry).0, state_after origin (history ++ entry ∷ []))
 
--- every number that is given out next is at most one more than the number of entries
+-- the next numbers of tasks, instances, broadcasts, tokens and registrations, and the starts of each running service,
+-- are at most one more than the number of entries
 abbrev pub NumbersFollow : Type 0
 NumbersFollow =
     (origin : Origin) (history : List Entry) → HasNumbersTo (1 + length history) (state_after origin history)
+
+-- every installation takes one uid: the next one is at most the first next one and the number of entries, and it is
+-- never a smaller one
+abbrev pub UidsFollow : Type 0
+UidsFollow =
+    (origin : Origin) (history : List Entry)
+    → ((opening_of origin).next_uid ≤ (state_after origin history).next_uid)
+    × ((state_after origin history).next_uid ≤ (opening_of origin).next_uid + length history)
 
 -- a history of at most 2^20 entries leaves numbers for a call
 abbrev pub NumbersSuffice : Type 0

@@ -2,13 +2,19 @@
 //! contract is the law.
 #![tactic(auto)]
 
-ghost use Rattle.am_laws.specs.Laws.{NumbersFollow, NumbersSuffice, MomentsFit, MomentsRise, NoRequestFaults};
+ghost use Rattle.am_laws.specs.Laws.{NumbersFollow, UidsFollow, NumbersSuffice, MomentsFit, MomentsRise, NoRequestFaults};
 ghost use Rattle.am_laws.specs.Refusals.{RefusalsChangeNothing};
 
-/// After every history, each number that is given out next is at most one more than the history's
-/// length, and so is the number of starts of each running service. Takes no memory.
+/// After every history, the next numbers of tasks, instances, broadcasts, tokens and registrations are at most one more
+/// than the history's length, and so is the number of starts of each running service. Takes no memory.
 pub fn numbers_follow()
     ensures { NumbersFollow }
+{}
+
+/// After every history, the next uid is at least the first next one, and exceeds it by at most the history's length.
+/// Takes no memory.
+pub fn uids_follow()
+    ensures { UidsFollow }
 {}
 
 /// A history within its limit leaves numbers for a call. Takes no memory.

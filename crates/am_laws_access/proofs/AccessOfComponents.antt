@@ -110,12 +110,12 @@ module _ (opening : State) (h : List Entry) (state : State) (known : Known openi
     sent = λ sender intent permission ordered did unprotected. known;
     ended = λ keeps. known_kept opening h state.board.packages state.tasks state.services keeps known;
     unserved = λ keeps. known_served opening h state.board.packages state.tasks state.services keeps known;
-    registered = λ filter permission. known;
+    registered = λ filter permission asked. known;
     taken_back = λ found. known;
     finished = λ number answer holder asked is own. known;
-    got = λ left few. known;
+    got = λ kind code intent flags got asked given. known;
     changed = λ after left same one. one;
-    installed = λ text key manifest is name_unused key_unused room.
+    installed = λ text key manifest asked admin read name_unused key_unused room.
         known_among opening h state.board.packages (state.board.packages ++ installed state manifest key ∷ [])
         state.tasks state.services
         (λ name uid named. named_more state.board.packages (installed state manifest key) name uid named) known;

@@ -6,6 +6,8 @@ use Rattle.std.proofs.lemmas.Bool.{false≢true}
 use Rattle.std.proofs.lemmas.List.Elements.{All-weaker, All-contains, All-contains_itself, Contains-get_or}
 use Rattle.am_types.specs.declared.intent.Intent.{Intent}
 use Rattle.am_types.specs.declared.broadcast.Spot.{Spot}
+use Rattle.am_types.specs.declared.device.Package.{Package}
+use Rattle.am_types.specs.declared.resolve.Registration.{Registration}
 use Rattle.am_types.specs.declared.broadcast.Ordered.{Ordered}
 use Rattle.am_types.specs.declared.task.Landed.{Landed}
 use Rattle.am_types.specs.declared.history.Entry.{Entry}
@@ -15,6 +17,7 @@ use Rattle.am_types.specs.declared.rule.Rule.TheVariants.{KeeperFault}
 use Rattle.am_model.specs.Gates.{is_privileged}
 use Rattle.am_model.specs.Receivers.{receivers, admitted, is_protected}
 use Rattle.am_model.specs.Broadcasts.{Normal, Delivery}
+use Rattle.am_model.specs.Pendings.{Pending}
 use Rattle.am_model.specs.Tasks.{Instance, Task}
 use Rattle.am_history.specs.State.{State, Service}
 use Rattle.am_history.specs.BroadcastCalls.{sending_of}
@@ -28,12 +31,13 @@ use Rattle.am_laws.specs.Laws.{state_after, answer_after}
 use Rattle.am_laws.proofs.Outcomes.{is_other, Comes, refuses, lands, tells, ActComes, acts, uses, act_comes}
 use Rattle.am_laws.proofs.Requests.{Steps, step_leaves}
 use Rattle.am_laws_access.specs.Intents.{IsAmong, HasDone}
-use Rattle.am_laws_access.specs.Adds.{Addition, ADelivery, AnInstance, AService, IsDeliveryOf, Has, IsSentAtOnce, IsAddedBy, IsLanding, Adds}
+use Rattle.am_laws_access.specs.Adds.{Addition, ADelivery, AnInstance, AService, AReceiver, AToken, APackage, IsDeliveryOf, Has, IsSentAtOnce, IsAddedBy, IsLanding, Adds}
 use Rattle.am_laws_access.proofs.AccessOfComponents.{all_known}
 use Rattle.am_laws_access.proofs.BroadcastSteps.{broadcast_steps}
 use Rattle.am_laws_access.proofs.Deliveries.{OfDeliveries, expired_of, finished_of, forget_of, forget_uid_of, sent_of}
 use Rattle.am_laws_access.proofs.Intents.{given, start_lands}
 use Rattle.am_laws_access.proofs.KnownComponents.{Known}
+use Rattle.am_laws_access.proofs.Listed.{IsListed, all_listed}
 use Rattle.am_laws_access.proofs.Served.{served}
 
 -- each delivery is one of its broadcast
@@ -131,6 +135,9 @@ module _ (opening : State) (h : List Entry) (entry : Entry) (known : Known openi
     advanced = λ moment. expired_of D due.broadcasts moment here;
   })
 
+  listed : IsListed (replay opening h) entry (step (replay opening h) h entry).1
+  listed = all_listed (replay opening h) h entry
+
   -- what is there after the entry was there at its moment, or the entry added it
   own : (a : Addition) → Has (step (replay opening h) h entry).1 a → Has due a ⊎ IsAddedBy due entry a
   own (ADelivery number sender intent d) has =
@@ -145,6 +152,14 @@ module _ (opening : State) (h : List Entry) (entry : Entry) (known : Known openi
       All-contains (λ (t : Service). Has due (AService t) ⊎ IsAddedBy due entry (AService t))
       (step (replay opening h) h entry).1.services s
       (served opening h entry known) has
+  own (AReceiver r) has = All-contains (λ (other : Registration). Has due (AReceiver other) ⊎ IsAddedBy due entry
+      (AReceiver other)) (step (replay opening h) h entry).1.board.registered r listed.registered has
+  own (AToken kept) has = All-contains (λ (other : Pending). Has due (AToken other) ⊎ IsAddedBy due entry
+      (AToken other)) (step (replay opening h) h entry).1.pendings.records (record kept { holders = has.0 })
+      listed.tokens has.1
+  own (APackage p) has = All-contains (λ (other : Package). Has due (APackage other) ⊎ IsAddedBy due entry
+      (APackage other)) (step (replay opening h) h entry).1.board.packages (record p { stopped = has.0 })
+      listed.packages has.1
 
   -- what is there at its moment was there before
   passing : (a : Addition) → Has due a → Has (replay opening h) a
@@ -155,6 +170,9 @@ module _ (opening : State) (h : List Entry) (entry : Entry) (known : Known openi
       (each_delivery (replay opening h).broadcasts.normal)) number sender intent d has
   passing (AnInstance i) has = has
   passing (AService s) has = has
+  passing (AReceiver r) has = has
+  passing (AToken kept) has = has
+  passing (APackage p) has = has
 
   -- a start that landed was the entry's own
   deed_lands : entry.kept ≡ true → (next : Reply × State) → Comes due (deed_of due entry.uid entry.request) next

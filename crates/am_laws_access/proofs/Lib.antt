@@ -8,5 +8,6 @@ pub mod AccessOfComponents
 pub mod AccessOfReceivers
 pub mod Intents
 pub mod Served
+pub mod Listed
 pub mod Adding
 pub mod AddingExamples

@@ -32,9 +32,9 @@ pub fn services_are_admitted()
 {}
 
 /// After every history, whatever an entry adds is a deed of this entry, which was admitted in the state at its moment:
-/// a delivery of a normal broadcast, whose number it gave out; an activity instance, or an intent of one; or one
-/// more start of a service. If its answer says that a start landed, that was the entry's own start, even if the
-/// instance already had that intent. Takes no memory.
+/// a delivery of a normal broadcast, whose number it gave out; an activity instance, or an intent of one; one more
+/// start of a service; a registered receiver; a token, or other extras of one; or a package. If its answer says that a
+/// start landed, that was the entry's own start, even if the instance already had that intent. Takes no memory.
 pub fn entries_add_their_deeds()
     ensures { EntriesAddTheirDeeds }
 {}

@@ -33,7 +33,8 @@ use Rattle.am_laws_courses.proofs.Holders.{HasHolders, TurnFor, CurrentFor, none
 use Rattle.am_laws_courses.proofs.HolderSteps.{expired_held, finished_held, forget_held, forget_uid_held, sent_held}
 use Rattle.am_laws_courses.proofs.Held.{held_is, current_is}
 use Rattle.am_laws_courses.proofs.Order.{AreInOrder, none_in_order, expired_order, finished_order, forget_order, forget_uid_order, sent_order}
-use Rattle.am_laws_courses.proofs.Numbers.{expired_next, sent_next, none_delivered}
+use Rattle.am_laws.proofs.NextBroadcasts.{expired_keeps, sent_gives_one}
+use Rattle.am_laws_courses.proofs.Numbers.{none_delivered}
 use Rattle.am_laws_courses.proofs.Found.{IsFound, IsLost, foreground_found, background_found, results_lost}
 use Rattle.am_laws_courses.proofs.Courses.{courses_follow, expired_courses, finished_courses, forget_courses, forget_uid_courses, sent_courses}
 use Rattle.am_laws_courses.proofs.CourseSteps.{finishing_more, Runs, runs_given, runs_unwanted, course_given, earlier, due, by_then, late_runs, late_by, late_left, untouched, answered, struck_runs, struck_left}
@@ -320,7 +321,7 @@ module _ (opening : State) (before : List Entry) (entry : Entry) where
             (receivers now.board intent sender permission)) ordered has;
         order = sent_order now.broadcasts (sending_of now sender intent ordered
             (receivers now.board intent sender permission)) ordered order;
-        unsent = still_more done is _ (sent_next now.broadcasts (sending_of now sender intent ordered
+        unsent = still_more done is _ (sent_gives_one now.broadcasts (sending_of now sender intent ordered
             (receivers now.board intent sender permission)) ordered);
       };
       finished = λ number answer holder asked is same done. record {
@@ -364,7 +365,7 @@ module _ (opening : State) (before : List Entry) (entry : Entry) where
         order = expired_order now.broadcasts (now.moment + more) order;
         unsent = λ number free.
             let same : (expired now.broadcasts (now.moment + more)).next_broadcast
-            ≡ now.broadcasts.next_broadcast = expired_next now.broadcasts (now.moment + more) in
+            ≡ now.broadcasts.next_broadcast = expired_keeps now.broadcasts (now.moment + more) in
             still_unsent true done number (omega arith);
       };
     }
@@ -384,7 +385,7 @@ module _ (opening : State) (before : List Entry) (entry : Entry) where
 
       unsent : (number : ℕ) → now.broadcasts.next_broadcast ≤ number → finishing opening number [] before ≡ []
       unsent number free =
-          let same : now.broadcasts.next_broadcast ≡ was.broadcasts.next_broadcast = expired_next was.broadcasts
+          let same : now.broadcasts.next_broadcast ≡ was.broadcasts.next_broadcast = expired_keeps was.broadcasts
           (moment_after was entry.now) in
           here.unsent number (omega arith)
 

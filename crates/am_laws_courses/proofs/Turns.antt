@@ -27,7 +27,8 @@ use Rattle.am_laws_courses.specs.Fold.{OfCourses}
 use Rattle.am_laws_courses.specs.Turns.{holder_of, reached, BeginWith, GoesInTurn, IsInTurn, OfTurns}
 use Rattle.am_laws_courses.proofs.Order.{AreInOrder, none_in_order, expired_order, finished_order, forget_order, forget_uid_order, sent_order, turning}
 use Rattle.am_laws_courses.proofs.Found.{foreground_turns, background_turns}
-use Rattle.am_laws_courses.proofs.Numbers.{expired_next, sent_next, none_has}
+use Rattle.am_laws.proofs.NextBroadcasts.{expired_keeps, sent_gives_one}
+use Rattle.am_laws_courses.proofs.Numbers.{none_has}
 use Rattle.am_laws_courses.proofs.Acts.{Acts, acts_do}
 use Rattle.am_laws_courses.proofs.Courses.{Settling, expired_courses, finished_courses, forget_courses, forget_uid_courses, sent_courses}
 
@@ -210,7 +211,7 @@ module _ (opening : State) (h : List Entry) where
         (none_some (sym (on.fresh earlier later all.next_broadcast splits (omega arith)) ∙ found))) on.turns;
     order = sent_order all sent ordered on.order;
     fresh = λ earlier later number splits free.
-        let more : (with_sent all sent ordered).next_broadcast ≡ all.next_broadcast + 1 = sent_next all sent ordered in
+        let more : (with_sent all sent ordered).next_broadcast ≡ all.next_broadcast + 1 = sent_gives_one all sent ordered in
         on.fresh earlier later number splits (omega arith);
   }
     where
@@ -248,7 +249,7 @@ module _ (opening : State) (h : List Entry) where
     turns = expired_courses G G U settles all now on.order (turns_on (is_late now) Late refl) on.turns;
     order = expired_order all now on.order;
     fresh = λ earlier later number splits free.
-        let same : (expired all now).next_broadcast ≡ all.next_broadcast = expired_next all now in
+        let same : (expired all now).next_broadcast ≡ all.next_broadcast = expired_keeps all now in
         on.fresh earlier later number splits (omega arith);
   }
 

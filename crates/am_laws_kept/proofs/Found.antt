@@ -17,7 +17,7 @@ use Rattle.am_history.specs.State.{State, opening}
 use Rattle.am_history.specs.Desks.{state_or}
 use Rattle.am_history.specs.Kept.{row_of}
 use Rattle.am_history.specs.Opening.{opening_with}
-use Rattle.am_history.specs.Steps.{act, after_due, asks_keeper, is_formed, step}
+use Rattle.am_history.specs.Steps.{act, after_due, asks_keeper, has_formed_row, step}
 use Rattle.am_history.specs.History.{replay, replay_from}
 use Rattle.am_laws_state.specs.Sound.{IsSoundState}
 use Rattle.am_laws_state.proofs.Sound.{step_keeps_sound}
@@ -42,7 +42,7 @@ kept_in_order rows state before entry order = by (row_kept state before entry)
 -- with it the device opens as the state after the entry
 pub entry_is_found : (device : Device) (rows : Rows) (state : State) (before : List Entry) (entry : Entry)
     → IsSound device → IsInOrder rows → IsSoundState state
-    → IsTrue (is_formed entry.request) → OpensAs device rows state
+    → IsTrue (has_formed_row entry.request) → OpensAs device rows state
     → OpensAs device (with_kept rows (row_kept state before entry)) (step state before entry).1
 entry_is_found device rows state before entry sound order whole formed opens = by entry.kept
   where
@@ -67,7 +67,7 @@ entry_is_found device rows state before entry sound order whole formed opens = b
 -- and so with the rows that entries have kept, one after the other
 found_from : (device : Device) (state : State) (before : List Entry) (rows : Rows) (entries : List Entry)
     → IsSound device → IsInOrder rows → IsSoundState state
-    → AllByRecursion (λ (entry : Entry). IsTrue (is_formed entry.request)) entries → OpensAs device rows state
+    → AllByRecursion (λ (entry : Entry). IsTrue (has_formed_row entry.request)) entries → OpensAs device rows state
     → OpensAs device (rows_after_from state before rows entries) (replay_from state before entries)
 found_from device state before rows [] sound order whole formed opens = opens
 found_from device state before rows (first ∷ others) sound order whole formed opens =
@@ -83,14 +83,14 @@ opens_sound device rows start sound opens =
     subst IsSoundState (ap (state_or (opening device)) opens) (opening_is_sound
     (record { device = device; rows = rows; place = None }) sound)
 
--- after every history of formed requests what was done is found again
+-- after every history of requests with formed rows what was done is found again
 pub history_is_found : (device : Device) (rows : Rows) (start : State) (history : List Entry) → IsSound device
     → IsInOrder rows → opening_with device rows ≡ Ok start
-    → All (λ (entry : Entry). IsTrue (is_formed entry.request)) history
+    → All (λ (entry : Entry). IsTrue (has_formed_row entry.request)) history
     → OpensAs device (rows_after start rows history) (replay start history)
 history_is_found device rows start history sound order opens formed =
     found_from device start [] rows history sound order (opens_sound device rows start sound opens)
-    (recursion_from_All (λ (entry : Entry). IsTrue (is_formed entry.request)) history formed)
+    (recursion_from_All (λ (entry : Entry). IsTrue (has_formed_row entry.request)) history formed)
     (record { found = start; opens = opens; same = refl })
 
 -- entries behind `before` and one more

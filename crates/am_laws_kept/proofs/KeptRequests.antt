@@ -26,7 +26,7 @@ use Rattle.am_history.specs.State.{State}
 use Rattle.am_history.specs.Answers.{done, for_admin, for_found, for_package, refused}
 use Rattle.am_history.specs.Kept.{gone_row, installed_row, row_of}
 use Rattle.am_history.specs.Packages.{grant, install, install_read, is_full, is_key_used, is_name_used, link, uninstall, without}
-use Rattle.am_history.specs.Steps.{act, asks_keeper, is_formed, is_refusal, keeps_row}
+use Rattle.am_history.specs.Steps.{act, asks_keeper, has_formed_row, is_refusal, keeps_row}
 use Rattle.am_laws.proofs.Packages.{named_is_live}
 use Rattle.am_laws.proofs.Tests.{neither}
 use Rattle.am_laws_state.specs.Sound.{IsSoundState}
@@ -88,7 +88,7 @@ module _ (device : Device) (kept : Rows) (state : State) (sound : IsSound device
 
   -- a package whose manifest was read
   read_is_found : (text key : List ℕ) (manifest : Result Manifest ManifestFault) → manifest_of text ≡ manifest
-      → IsTrue (is_formed (asks.Install text key))
+      → IsTrue (has_formed_row (asks.Install text key))
       → IsFound (installed_row state.next_uid text key manifest) (install_read state key manifest)
   read_is_found text key (Err fault) is formed = refused_is_found None (rules.BadManifest fault)
   read_is_found text key (Ok manifest) is formed =
@@ -106,7 +106,7 @@ module _ (device : Device) (kept : Rows) (state : State) (sound : IsSound device
       row = installed_row state.next_uid text key (Ok manifest)
 
   -- each request that has a row kept
-  keeping_is_found : (before : List Entry) (request : Request) → keeps_row request ≡ true → IsTrue (is_formed request)
+  keeping_is_found : (before : List Entry) (request : Request) → keeps_row request ≡ true → IsTrue (has_formed_row request)
       → IsFound (row_of state request) (act state before caller request)
   unfolding act install uninstall grant link
   keeping_is_found before (asks.Install text key) keeps formed =
@@ -131,7 +131,7 @@ module _ (device : Device) (kept : Rows) (state : State) (sound : IsSound device
   keeping_is_found before _ keeps formed = absurd cc
 
   -- each request
-  pub act_is_found : (before : List Entry) (request : Request) → IsTrue (is_formed request)
+  pub act_is_found : (before : List Entry) (request : Request) → IsTrue (has_formed_row request)
       → OpensAs device (with_kept kept (cond (asks_keeper state before caller request) (row_of state request) None))
       (act state before caller request).1
   act_is_found before request formed = by (keeps_row request) refl

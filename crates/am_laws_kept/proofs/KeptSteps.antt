@@ -10,6 +10,7 @@ use Rattle.am_types.specs.declared.device.Package.{Package}
 use Rattle.am_types.specs.declared.device.Grant.{Grant}
 use Rattle.am_types.specs.declared.device.Link.{Link}
 use Rattle.am_types.specs.declared.manifest.Manifest.{Manifest}
+use Rattle.am_types.specs.declared.request.Request.TheVariants as asks
 use Rattle.am_types.specs.declared.request.Request.{Request}
 use Rattle.am_keeper.specs.declared.rows.PackageRow.{PackageRow}
 use Rattle.am_keeper.specs.declared.rows.GrantRow.{GrantRow}
@@ -182,8 +183,8 @@ module _ (device : Device) (kept : Rows) (state : State) (sound : IsSound device
         (record (with_packages state (state.board.packages ++ installed state manifest key ∷ []))
         { next_uid = state.next_uid + 1 })
     installation_is_found text key manifest written name_unused key_unused room key_good =
-        reading_opens device (rows.with_package kept row) _ (steps.installed text key manifest written name_unused
-        key_unused room) (record {
+        reading_opens device (rows.with_package kept row) _ ((sound_after state whole 1000
+        (asks.Install text key)).installed text key manifest refl refl written name_unused key_unused room) (record {
           read = with_row_package read row manifest;
           reads = last_is_read (opening device) read row kept.packages rows_below reading.reads
               ∙ package_row_read read row manifest greatest refl written good;

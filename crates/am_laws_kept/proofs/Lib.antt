@@ -11,4 +11,3 @@ pub mod Alike
 pub mod KeptSteps
 pub mod KeptRequests
 pub mod Found
-pub mod FoundExamples

@@ -7,24 +7,24 @@ use Rattle.am_keeper.specs.Rows.{IsInOrder}
 use Rattle.am_model.specs.Sound.{IsSound}
 use Rattle.am_history.specs.State.{State}
 use Rattle.am_history.specs.Opening.{opening_with}
-use Rattle.am_history.specs.Steps.{is_formed, step}
+use Rattle.am_history.specs.Steps.{has_formed_row, step}
 use Rattle.am_history.specs.History.{replay}
 use Rattle.am_laws_state.specs.Sound.{IsSoundState}
 use Rattle.am_laws_kept.specs.Found.{OpensAs, row_kept, rows_after, with_kept}
 
--- a sound device that opens with rows also opens with those that a history of formed requests has kept since, and
+-- a sound device that opens with rows also opens with those that a history of requests with formed rows has kept since, and
 -- what is kept of the state after that history is found
 abbrev pub KeptIsFound : Type 0
 KeptIsFound =
     (device : Device) (rows : Rows) (opening : State) (history : List Entry) → IsSound device → IsInOrder rows
-    → opening_with device rows ≡ Ok opening → All (λ (entry : Entry). IsTrue (is_formed entry.request)) history
+    → opening_with device rows ≡ Ok opening → All (λ (entry : Entry). IsTrue (has_formed_row entry.request)) history
     → OpensAs device (rows_after opening rows history) (replay opening history)
 
 -- with the row that a formed entry has kept, the device opens as the state after it
 abbrev pub StepIsFound : Type 0
 StepIsFound =
     (device : Device) (rows : Rows) (state : State) (before : List Entry) (entry : Entry)
-    → IsSound device → IsInOrder rows → IsSoundState state → IsTrue (is_formed entry.request)
+    → IsSound device → IsInOrder rows → IsSoundState state → IsTrue (has_formed_row entry.request)
     → OpensAs device rows state
     → OpensAs device (with_kept rows (row_kept state before entry)) (step state before entry).1
 

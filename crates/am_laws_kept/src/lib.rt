@@ -4,7 +4,7 @@
 
 ghost use Rattle.am_laws_kept.specs.Laws.{KeptIsFound, StepIsFound, RowsStayInOrder, RowsFollow};
 
-/// After every history of formed requests, the device opens with the rows that the history has kept, and
+/// After every history of requests with formed rows, the device opens with the rows that the history has kept, and
 /// finds again what is installed and given. Takes no memory.
 pub fn kept_is_found()
     ensures { KeptIsFound }

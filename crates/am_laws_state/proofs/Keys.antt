@@ -94,6 +94,16 @@ none_has (p ∷ ps) uid is = by (eqb p.uid uid) (none_has ps uid) is
     by true rest e = absurd cc
     by false rest e = rest e
 
+-- and the other way round
+has_none : (ps : List Package) (uid : ℕ) → is_package_uid ps uid ≡ false → key_of_package ps uid ≡ None
+has_none [] uid is = refl
+has_none (p ∷ ps) uid is = by (eqb p.uid uid) (has_none ps uid) is
+  where
+    by : (b : Bool) → (is_package_uid ps uid ≡ false → key_of_package ps uid ≡ None) → b || is_package_uid ps uid ≡ false
+        → cond b (Some p.key) (key_of_package ps uid) ≡ None
+    by true rest e = absurd cc
+    by false rest e = rest e
+
 -- packages have the uids of apps
 low_has_none : (ps : List Package) (uid : ℕ) → AllByRecursion IsSoundApp ps → uid < 10000 → is_package_uid ps uid
     ≡ false
@@ -214,13 +224,28 @@ module _ (system : List ℕ) (ps : List Package) (apps : AllByRecursion IsSoundA
       by false true there e = root_none root uid e there
       by false false there e = none_has ps uid e
 
+  -- no caller, no key
+  no_caller_no_key : (root : Option (List ℕ)) (uid : ℕ)
+      → (eqb uid 1000 || (eqb uid 0 && is_some root)) || is_package_uid ps uid ≡ false → keyed root uid ≡ None
+  no_caller_no_key root uid none = by root (eqb uid 1000) (eqb uid 0) none
+    where
+      by : (root : Option (List ℕ)) (a b : Bool) → (a || (b && is_some root)) || is_package_uid ps uid ≡ false
+          → cond a (Some system) (cond b root (key_of_package ps uid)) ≡ None
+      by root true b e = absurd cc
+      by None false true e = refl
+      by (Some root) false true e = absurd cc
+      by root false false e = has_none ps uid e
+
 pub sound_keys : (state : State) → IsSoundState state → KeysAreKnown state
 sound_keys state sound = record {
   known = λ uid key. (
     key_forward state.system_key state.board.packages apps up state.root_key uid key sound.packages.keys,
     key_backward state.system_key state.board.packages apps up state.root_key uid key,
   );
-  none = λ uid is. key_none state.system_key state.board.packages apps up state.root_key uid is;
+  none = λ uid. (
+    key_none state.system_key state.board.packages apps up state.root_key uid,
+    no_caller_no_key state.system_key state.board.packages apps up state.root_key uid,
+  );
 }
   where
     apps : AllByRecursion IsSoundApp state.board.packages

@@ -95,7 +95,7 @@ module _ (state : State) (sound : IsSoundState state) where
     sent = λ sender intent permission ordered did unprotected. sound;
     ended = λ keeps. sound;
     unserved = λ keeps. sound;
-    registered = λ filter permission.
+    registered = λ filter permission asked.
         let r : Registration = record {
           number = state.next_registration;
           uid = caller;
@@ -107,9 +107,9 @@ module _ (state : State) (sound : IsSoundState state) where
         (receivers_more state.board.registered r sound.registered);
     taken_back = λ found. received_left (λ (r : Registration). not (r.number == found.number));
     finished = λ number answer holder asked is own. sound;
-    got = λ left few. sound;
+    got = λ kind code intent flags got asked given. sound;
     changed = λ after left same one. one;
-    installed = λ text key manifest is name_unused key_unused room. installed_sound key manifest
+    installed = λ text key manifest asked admin is name_unused key_unused room. installed_sound key manifest
         (manifest_sound text manifest is) name_unused key_unused room;
     gone = λ uid. board_without owners (forget state uid).board state.next_uid state.next_registration
         (forget_sound uid) uid;

@@ -1,8 +1,8 @@
 //! What is read from the state.
 ghost use Rattle.std.specs.Prelude.{◌≡◌, length, IfOk};
 ghost use Rattle.am_types.specs.declared.reply.Reply.TheVariants.{Components, Services, Tasks};
-ghost use Rattle.am_model.specs.Candidates.{hits};
 ghost use Rattle.am_model.specs.Gates.{is_privileged};
+ghost use Rattle.am_model.specs.Starts.{query_hits};
 ghost use Rattle.am_model.specs.Tasks.{views};
 ghost use Rattle.am_history.specs.Activities.{components_of};
 ghost use Rattle.am_history.specs.Services.{services_of};
@@ -14,8 +14,7 @@ use am_types::{Intent, Kind, NoMemory, Reply, Steps};
 use std::sync::ledger::Ledger;
 
 impl Live {
-    /// The components of the kind that the intent finds, by falling priority, then in the order of uid and
-    /// place. A step is a full test of a filter.
+    /// What a query for the kind shows of what the intent finds, in order. A step is a full test of a filter.
     pub fn query<L: Ledger>(
         &self,
         kind: Kind,
@@ -24,7 +23,7 @@ impl Live {
         steps: &mut Steps<L>,
     ) -> Result<Reply, NoMemory>
         ensures { IfOk result
-            (λ reply. reply ≡ Components (components_of (hits self.now.board.packages kind intent.now default_only))) }
+            (λ reply. reply ≡ Components (components_of (query_hits self.now.board kind intent.now default_only))) }
     {
         let found = self
             .board

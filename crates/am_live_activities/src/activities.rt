@@ -48,7 +48,7 @@ pub fn start<L: Ledger>(
     match &asked.intent.component {
         Some(component) => start_component(board, tasks, asked, component, Rule::NoComponent),
         None => {
-            let target = board.target(alloc, asked.intent, steps)?;
+            let target = board.target(alloc, asked.caller, asked.intent, steps)?;
             start_target(alloc, board, tasks, asked, target)
         }
     }

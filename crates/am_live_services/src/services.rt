@@ -41,7 +41,7 @@ pub fn start_service<L: Ledger>(
             Rule::NoComponent,
         ),
         (None, Some(_)) => {
-            let found = board.query(alloc, Kind::Service, intent, false, steps)?;
+            let found = board.hits(alloc, Kind::Service, intent, false, steps)?;
             match found.as_slice().first() {
                 None => Ok(Reply::Refused(Rule::NoService)),
                 Some(hit) => start_component(

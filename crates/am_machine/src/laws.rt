@@ -69,7 +69,7 @@ impl<K: Keeper> Manager<K> {
 
     /// Whatever the next entry adds is a deed of that entry itself, which was admitted in the state at its moment: a
     /// delivery of a normal broadcast, to which it gave its number; an activity instance, or a new intent of one; one
-    /// more start of a service. If its answer is that a start landed, that start was its own, also if the instance
+    /// more start of a service; a registered receiver; a token, or other extras of one; a package. If its answer is that a start landed, that start was its own, also if the instance
     /// had that intent already. What is due at its moment adds nothing. Takes no memory.
     pub fn adds_by_deeds(&self)
         ensures adds { (next : Entry) → Adds (state_after self.now.origin self.now.history) next

@@ -6,7 +6,7 @@ ghost use Rattle.am_history.specs.Desks.{opening_of, ShowsAt};
 ghost use Rattle.am_history.specs.History.{IsLegal, replay, may_change, has_room, entry_of};
 ghost use Rattle.am_history.specs.State.{uid_of, has_uid};
 ghost use Rattle.am_history.specs.Numbers.{HasNumbers};
-ghost use Rattle.am_history.specs.Steps.{Call, after_due, asks_keeper, is_calm, is_formed, keeps_row, step};
+ghost use Rattle.am_history.specs.Steps.{Call, after_due, asks_keeper, is_calm, has_formed_row, keeps_row, step};
 ghost use Rattle.am_laws_state.specs.Sound.{IsSoundState};
 ghost use Rattle.am_machine.specs.Keeping.{AsksAtMostOnce, AsksOnce, CountsFault, CountsNone, GoesOn, IsFault, IsUnasked, Leaves, LeavesUnmade, TellsSame, told_after, with_kept};
 
@@ -46,7 +46,7 @@ impl<K: Keeper> Manager<K> {
         weight: u32,
         request: Request,
     ) -> Result<Shown, NoMemory>
-        requires formed { IsTrue (is_formed request) }
+        requires formed { IsTrue (has_formed_row request) }
         ensures shown { IfOk result
             (λ shown. ShowsAt (opening_of self.old.origin) self.old.history self.new.history
             (record { desk = desk; key = key.now; now = now; weight = weight; request = request })

@@ -33,7 +33,7 @@ use Rattle.am_types.specs.declared.device.RightKind.{RightKind}
 use Rattle.am_types.specs.declared.device.RightKind.TheVariants.{Permission, Host}
 use Rattle.am_manifest.specs.Manifests.{IsAppManifest, IsSoundManifest, classes, decls_in, first_repeated, manifest_alone, manifest_in, manifest_made, manifest_of, root_of, unless_repeated}
 use Rattle.am_manifest.specs.Rights.{array_key, limit_name, more_texts, place_among, right_entry, right_put, rights_from, rights_in, rights_of, texts_of, with_right, with_uids}
-use Rattle.am_manifest.specs.Devices.{apart, device_in, first_taken, known_keys, manifest_at, manifest_found, owners_in, package_entry, package_of, packages_apart, packages_in, roots_apart, shares_key, unless_taken}
+use Rattle.am_manifest.specs.Devices.{apart, device_in, first_taken, known_keys, manifest_at, manifest_found, owners_in, package_entry, package_of, packages_apart, packages_in, roots_apart, rules_at, shares_key, unless_taken}
 use Rattle.am_manifest.proofs.Apart.{AreApart, are_apart, behind_one, behind_owners, distinct}
 use Rattle.am_manifest.proofs.Held.{AreFewTexts, CountUp, sound_rights}
 use Rattle.am_manifest.proofs.FewFilters.{decls_within}
@@ -333,7 +333,8 @@ owners_fit : (value : Data) (owners : Owners) → owners_in value ≡ Ok owners
     → All (λ key. IsTrue (is_access_key key)) (owner_keys owners.system_key owners.root_key)
 unfolding owners_in
 owners_fit value owners h =
-    let system_key = steps (required_text AccessKey [] (codes "system_key") value) _ owners h in
+    let rules = steps (rules_at value) _ owners h in
+    let system_key = steps (required_text AccessKey [] (codes "system_key") value) _ owners rules.then in
     let root_key = steps (optional_text AccessKey [] (codes "root_key") value) _ owners system_key.then in
     let browser = steps (optional_text PackageName [] (codes "browser") value) _ owners root_key.then in
     let first = required_fits AccessKey [] (codes "system_key") value system_key.value system_key.is in

@@ -1,10 +1,13 @@
 -- The device that a file describes.
 use Rattle.std.specs.Prelude.{ℕ, ◌+◌, Bool, true, false, codes, List, [], ◌∷◌, length, is_some, if◌then◌else◌, Option, Some, None, Result, Ok, Err}
 use Rattle.std.specs.Str.{bytes_eq, is_utf8}
-use Rattle.toml.specs.Data.{Data, get, as_table}
+use Rattle.std.specs.Option.{option_and_then}
+use Rattle.toml.specs.Data.{Data, get, as_str, as_table}
 use Rattle.toml.specs.Parse.{parse_document}
 use Rattle.am_types.specs.declared.device.Device.{Device}
 use Rattle.am_types.specs.declared.device.Package.{Package}
+use Rattle.am_types.specs.declared.device.Rules.{Rules}
+use Rattle.am_types.specs.declared.device.Rules.TheVariants.{Profile, Android12}
 use Rattle.am_types.specs.declared.manifest.Manifest.{Manifest}
 use Rattle.am_types.specs.declared.manifest.ManifestFault.{ManifestFault}
 use Rattle.am_types.specs.declared.manifest.ManifestFault.TheVariants.{NotToml, Missing, WrongKind, Duplicate}
@@ -84,17 +87,40 @@ apart owners packages = do
   root ← roots_apart owners
   unless_taken packages (first_taken (codes "android" ∷ []) (known_keys owners) packages)
 
--- the keys of the system and of the root, and the browser
+-- the rules with this name
+abbrev pub rules_named : List ℕ → Option Rules
+rules_named word =
+    if bytes_eq word (codes "profile") then Some Profile
+    else if bytes_eq word (codes "android-12") then Some Android12
+    else None
+
+-- rules; `None` is a value that isn't a text, or a word that isn't a name of rules
+unfoldable pub rules_or : List ℕ → Option Rules → Result Rules ManifestFault
+rules_or place None = Err (WrongKind place)
+rules_or place (Some rules) = Ok rules
+
+-- the rules that are named, or the profile's
+unfoldable pub rules_in : List ℕ → Option Data → Result Rules ManifestFault
+rules_in place None = Ok Profile
+rules_in place (Some value) = rules_or place (option_and_then rules_named (as_str value))
+
+-- by whose rules a device answers
+unfoldable pub rules_at : Data → Result Rules ManifestFault
+rules_at value = rules_in (key_place [] (codes "rules")) (get (codes "rules") value)
+
+-- by whose rules a device answers, the keys of the system and of the root, and the browser
 unfoldable pub owners_in : Data → Result Owners ManifestFault
 owners_in value = do
+  rules ← rules_at value
   system_key ← required_text AccessKey [] (codes "system_key") value
   root_key ← optional_text AccessKey [] (codes "root_key") value
   browser ← optional_text PackageName [] (codes "browser") value
-  Ok (record { system_key = system_key; root_key = root_key; browser = browser })
+  Ok (record { rules = rules; system_key = system_key; root_key = root_key; browser = browser })
 
 -- a device assembled from these parts
 abbrev pub device_made : Owners → List (List ℕ) → List (List ℕ) → List Package → Rights → Device
 device_made owners «protected» exempt packages rights = record {
+  rules = owners.rules;
   system_key = owners.system_key;
   root_key = owners.root_key;
   browser = owners.browser;

@@ -1,11 +1,13 @@
 //! The device that a file describes.
 ghost use Rattle.std.specs.Prelude.{◌≡◌, ◌≢◌, ◌≤◌, Err, IfOk, codes, length, map, [], ◌∷◌};
+ghost use Rattle.std.specs.Option.{option_and_then};
+ghost use Rattle.toml.specs.Data.{as_str};
 ghost use Rattle.toml.specs.View.{view};
 ghost use Rattle.am_types.specs.Reading.{Gives, GivesBy};
 ghost use Rattle.am_manifest_filters.specs.Tables.{each};
 ghost use Rattle.am_uri.specs.Texts.{with_text};
 ghost use Rattle.am_model.specs.Sound.{IsSound};
-ghost use Rattle.am_manifest.specs.Devices.{apart, device_in, device_of, first_taken, is_taken, manifest_at, owners_in, package_entry, package_of, packages_apart, packages_in, known_keys, roots_apart, shares_key, text_of};
+ghost use Rattle.am_manifest.specs.Devices.{apart, device_in, device_of, first_taken, is_taken, manifest_at, owners_in, package_entry, package_of, packages_apart, packages_in, known_keys, roots_apart, rules_at, rules_named, shares_key, text_of};
 
 use crate::manifest::{duplicate, manifest_in, root_of};
 use crate::rights::rights_in;
@@ -13,15 +15,16 @@ use am_manifest_filters::{
     Position, ReadFault, at_most, entry_table, optional_text, optional_values, read_each,
     required_text, texts_at, within_key,
 };
-use am_types::{Device, List, Manifest, ManifestFault, Package, Text, Unmade};
+use am_types::{Device, List, Manifest, ManifestFault, Package, Rules, Text, Unmade};
 use am_uri::Form;
 use std::alloc::{AllocError, Global};
 use std::collections::BTreeSet;
 use toml::Value;
 
-/// The keys of the system and of the root, and the browser.
+/// By whose rules a device answers, the keys of the system and of the root, and the browser.
 #[derive(Drop)]
 pub struct Owners {
+    pub rules: Rules,
     pub system_key: Text,
     pub root_key: Option<Text>,
     pub browser: Option<Text>,
@@ -196,15 +199,53 @@ fn packages_apart(alloc: Global, owners: &Owners, table: &Value) -> Result<Vec<P
     apart(alloc, owners, packages)
 }
 
-/// The keys of the system and of the root, and the browser.
+/// The rules with this name.
+fn rules_named(word: &str) -> Option<Rules>
+    ensures { result ≡ rules_named word.now }
+{
+    match word {
+        "profile" => Some(Rules::Profile),
+        "android-12" => Some(Rules::Android12),
+        _ => None,
+    }
+}
+
+/// The rules that a value names.
+fn rules_of(value: &Value) -> Option<Rules>
+    ensures { result ≡ option_and_then rules_named (as_str (view value.now)) }
+{
+    match value.as_str() {
+        None => None,
+        Some(word) => rules_named(word),
+    }
+}
+
+/// By whose rules a device answers: the profile's, if none are named.
+#[tactic(auto, unfolding(crate::specs::Devices::rules_at, crate::specs::Devices::rules_in, crate::specs::Devices::rules_or))]
+fn rules_at(alloc: Global, table: &Value) -> Result<Rules, ReadFault>
+    ensures { Gives result (rules_at (view table.now)) }
+{
+    let Some(value) = table.get("rules") else {
+        return Ok(Rules::Profile);
+    };
+    let position = Position::key("", "rules");
+    match rules_of(value) {
+        None => Err(position.wrong_kind(alloc)),
+        Some(rules) => Ok(rules),
+    }
+}
+
+/// By whose rules a device answers, the keys of the system and of the root, and the browser.
 #[tactic(auto, unfolding(crate::specs::Devices::owners_in))]
 fn owners_in(alloc: Global, table: &Value) -> Result<Owners, ReadFault>
     ensures { Gives result (owners_in (view table.now)) }
 {
+    let rules = rules_at(alloc, table)?;
     let system_key = required_text(alloc, Form::AccessKey, "", "system_key", table)?;
     let root_key = optional_text(alloc, Form::AccessKey, "", "root_key", table)?;
     let browser = optional_text(alloc, Form::PackageName, "", "browser", table)?;
     Ok(Owners {
+        rules,
         system_key,
         root_key,
         browser,
@@ -222,6 +263,7 @@ fn device_in(alloc: Global, table: &Value) -> Result<Device, ReadFault>
     let packages = packages_apart(alloc, &owners, table)?;
     let rights = rights_in(alloc, &packages, table)?;
     Ok(Device {
+        rules: owners.rules,
         system_key: owners.system_key,
         root_key: owners.root_key,
         browser: owners.browser,

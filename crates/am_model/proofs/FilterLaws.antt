@@ -1,6 +1,8 @@
 -- A filter that lists more passes more.
 use Rattle.std.proofs.Common.{◌≡◌, ℕ, Bool, true, false, not, ◌&&◌, ◌||◌, List, [], ◌∷◌, ◌++◌, Option, Some, None, is_none, refl, sym, ap, ◌∙◌}
 use Rattle.std.specs.List.{list_any, list_all}
+use Rattle.am_types.specs.declared.device.Rules.{Rules}
+use Rattle.am_types.specs.declared.device.Rules.TheVariants.{Profile, Android12}
 use Rattle.am_types.specs.declared.intent.Intent.{Intent}
 use Rattle.am_types.specs.declared.uri.Uri.{Uri}
 use Rattle.am_types.specs.declared.uri.Mime.{Mime}
@@ -63,15 +65,18 @@ test_passes true reason held = refl
 test_passes false reason held = held
 
 -- one more listed action
-action_of_more : (before after : List (List ℕ)) (one : List ℕ) (action : Option (List ℕ))
-    → passes_action (before ++ after) action ≡ true → passes_action (before ++ one ∷ after) action ≡ true
-action_of_more [] after one None held = refl
-action_of_more (first ∷ before) after one None held = refl
-action_of_more [] [] one (Some action) held = absurd (one_answer false held refl)
-action_of_more [] (first ∷ after) one (Some action) held = any_of_more (λ listed. is_same listed action) []
+action_of_more : (rules : Rules) (before after : List (List ℕ)) (one : List ℕ) (action : Option (List ℕ))
+    → passes_action rules (before ++ after) action ≡ true → passes_action rules (before ++ one ∷ after) action ≡ true
+action_of_more Profile [] after one None held = refl
+action_of_more Profile (first ∷ before) after one None held = refl
+action_of_more Profile [] [] one (Some action) held = absurd (one_answer false held refl)
+action_of_more Profile [] (first ∷ after) one (Some action) held = any_of_more (λ listed. is_same listed action) []
     (first ∷ after) one held
-action_of_more (first ∷ before) after one (Some action) held = any_of_more (λ listed. is_same listed action)
+action_of_more Profile (first ∷ before) after one (Some action) held = any_of_more (λ listed. is_same listed action)
     (first ∷ before) after one held
+action_of_more Android12 before after one None held = refl
+action_of_more Android12 before after one (Some action) held = any_of_more (λ listed. is_same listed action)
+    before after one held
 
 -- one more listed category
 all_of_more : (before after : List (List ℕ)) (one : List ℕ) (categories : List (List ℕ))
@@ -93,12 +98,13 @@ categories_of_more before after one categories need_default held =
     (both_second (list_all (λ category. lists (before ++ after) category) categories) _ held))
 
 -- the test on data sees neither actions nor categories
-same_data_why : (filter : Filter) (actions categories : List (List ℕ)) (uri : Option Uri) (mime : Option Mime)
-    → data_why (record filter { actions = actions; categories = categories }) uri mime ≡ data_why filter uri mime
-same_data_why filter actions categories None None = refl
-same_data_why filter actions categories None (Some mime) = refl
-same_data_why filter actions categories (Some uri) None = refl
-same_data_why filter actions categories (Some uri) (Some mime) = refl
+same_data_why : (rules : Rules) (filter : Filter) (actions categories : List (List ℕ)) (uri : Option Uri)
+    (mime : Option Mime) → data_why rules (record filter { actions = actions; categories = categories }) uri mime
+    ≡ data_why rules filter uri mime
+same_data_why rules filter actions categories None None = refl
+same_data_why rules filter actions categories None (Some mime) = refl
+same_data_why rules filter actions categories (Some uri) None = refl
+same_data_why rules filter actions categories (Some uri) (Some mime) = refl
 
 -- a filter that lists some type doesn't list none
 untyped : (types before after : List Mime) → types ≡ before ++ after → is_empty (before ++ after) ≡ false
@@ -111,62 +117,62 @@ typed : (types before after : List Mime) (mime : Mime) → types ≡ before ++ a
 typed types before after mime listed held = ap (λ (those : List Mime). passes_type those mime) (sym listed) ∙ held
 
 -- one more listed type, where some is listed
-data_of_more : (filter : Filter) (before after : List Mime) (one : Mime) (uri : Option Uri) (mime : Option Mime)
-    → filter.types ≡ before ++ after → is_empty (before ++ after) ≡ false → is_none (data_why filter uri mime) ≡ true
-    → is_none (data_why (record filter { types = before ++ one ∷ after }) uri mime) ≡ true
-data_of_more filter before after one None None listed some held =
+data_of_more : (rules : Rules) (filter : Filter) (before after : List Mime) (one : Mime) (uri : Option Uri) (mime : Option Mime)
+    → filter.types ≡ before ++ after → is_empty (before ++ after) ≡ false → is_none (data_why rules filter uri mime) ≡ true
+    → is_none (data_why rules (record filter { types = before ++ one ∷ after }) uri mime) ≡ true
+data_of_more rules filter before after one None None listed some held =
     absurd (untyped filter.types before after listed some (test_holds _ _
     (rest_passes (unless (is_empty filter.schemes) Scheme) (unless (is_empty filter.types) Type_) held)))
-data_of_more filter before after one (Some uri) None listed some held =
+data_of_more rules filter before after one (Some uri) None listed some held =
     absurd (untyped filter.types before after listed some (test_holds _ _
-    (rest_passes (uri_why filter uri) (unless (is_empty filter.types) Type_) held)))
-data_of_more filter before after one None (Some mime) listed some held =
+    (rest_passes (uri_why rules filter uri) (unless (is_empty filter.types) Type_) held)))
+data_of_more rules filter before after one None (Some mime) listed some held =
     both_pass _ _
     (first_passes _ _ held)
     (test_passes _ _ (any_of_more (λ listed. goes_with listed mime) before after one
     (typed filter.types before after mime listed (test_holds _ _
     (rest_passes (unless (is_empty filter.schemes) Scheme) (unless (passes_type filter.types mime) Type_) held)))))
-data_of_more filter before after one (Some uri) (Some mime) listed some held =
+data_of_more rules filter before after one (Some uri) (Some mime) listed some held =
     both_pass _ _
     (first_passes _ _ held)
     (test_passes _ _ (any_of_more (λ listed. goes_with listed mime) before after one
     (typed filter.types before after mime listed (test_holds _ _
-    (rest_passes (typed_uri_why filter uri) (unless (passes_type filter.types mime) Type_) held)))))
+    (rest_passes (typed_uri_why rules filter uri) (unless (passes_type filter.types mime) Type_) held)))))
 
 -- a filter that passes still passes with one more action
-pub one_more_action : (filter : Filter) (before after : List (List ℕ)) (one : List ℕ) (intent : Intent)
-    (need_default : Bool) → filter.actions ≡ before ++ after → passes filter intent need_default ≡ true
-    → passes (record filter { actions = before ++ one ∷ after }) intent need_default ≡ true
-one_more_action filter before after one intent need_default listed held =
-    let action = test_holds _ _ (first_passes (unless (passes_action filter.actions intent.action) Action) _ held) in
-    let rest = rest_passes (unless (passes_action filter.actions intent.action) Action) _ held in
+pub one_more_action : (rules : Rules) (filter : Filter) (before after : List (List ℕ)) (one : List ℕ) (intent : Intent)
+    (need_default : Bool) → filter.actions ≡ before ++ after → passes rules filter intent need_default ≡ true
+    → passes rules (record filter { actions = before ++ one ∷ after }) intent need_default ≡ true
+one_more_action rules filter before after one intent need_default listed held =
+    let action = test_holds _ _ (first_passes (unless (passes_action rules filter.actions intent.action) Action) _ held) in
+    let rest = rest_passes (unless (passes_action rules filter.actions intent.action) Action) _ held in
     both_pass _ _
-    (test_passes _ _ (action_of_more before after one intent.action (rw listed at action)))
-    (rw (same_data_why filter (before ++ one ∷ after) filter.categories intent.uri intent.mime) rest)
+    (test_passes _ _ (action_of_more rules before after one intent.action (rw listed at action)))
+    (rw (same_data_why rules filter (before ++ one ∷ after) filter.categories intent.uri intent.mime) rest)
 
 -- a filter that passes still passes with one more category
-pub one_more_category : (filter : Filter) (before after : List (List ℕ)) (one : List ℕ) (intent : Intent)
-    (need_default : Bool) → filter.categories ≡ before ++ after → passes filter intent need_default ≡ true
-    → passes (record filter { categories = before ++ one ∷ after }) intent need_default ≡ true
-one_more_category filter before after one intent need_default listed held =
-    let rest = rest_passes (unless (passes_action filter.actions intent.action) Action) _ held in
-    let categories = test_holds _ _ (rest_passes (data_why filter intent.uri intent.mime)
+pub one_more_category : (rules : Rules) (filter : Filter) (before after : List (List ℕ)) (one : List ℕ) (intent : Intent)
+    (need_default : Bool) → filter.categories ≡ before ++ after → passes rules filter intent need_default ≡ true
+    → passes rules (record filter { categories = before ++ one ∷ after }) intent need_default ≡ true
+one_more_category rules filter before after one intent need_default listed held =
+    let rest = rest_passes (unless (passes_action rules filter.actions intent.action) Action) _ held in
+    let categories = test_holds _ _ (rest_passes (data_why rules filter intent.uri intent.mime)
     (unless (passes_categories filter.categories intent.categories need_default) Category) rest) in
-    both_pass (unless (passes_action filter.actions intent.action) Action) _
-    (first_passes (unless (passes_action filter.actions intent.action) Action) _ held)
+    both_pass (unless (passes_action rules filter.actions intent.action) Action) _
+    (first_passes (unless (passes_action rules filter.actions intent.action) Action) _ held)
     (both_pass _ _
-    (rw (same_data_why filter filter.actions (before ++ one ∷ after) intent.uri intent.mime)
-    (first_passes (data_why filter intent.uri intent.mime) _ rest))
+    (rw (same_data_why rules filter filter.actions (before ++ one ∷ after) intent.uri intent.mime)
+    (first_passes (data_why rules filter intent.uri intent.mime) _ rest))
     (test_passes _ _ (categories_of_more before after one intent.categories need_default (rw listed at categories))))
 
 -- a filter that lists some type and passes still passes with one more type
-pub one_more_type : (filter : Filter) (before after : List Mime) (one : Mime) (intent : Intent) (need_default : Bool)
-    → filter.types ≡ before ++ after → is_empty (before ++ after) ≡ false → passes filter intent need_default ≡ true
-    → passes (record filter { types = before ++ one ∷ after }) intent need_default ≡ true
-one_more_type filter before after one intent need_default listed some held =
-    let rest = rest_passes (unless (passes_action filter.actions intent.action) Action) _ held in
+pub one_more_type : (rules : Rules) (filter : Filter) (before after : List Mime) (one : Mime) (intent : Intent) (need_default : Bool)
+    → filter.types ≡ before ++ after → is_empty (before ++ after) ≡ false → passes rules filter intent need_default ≡ true
+    → passes rules (record filter { types = before ++ one ∷ after }) intent need_default ≡ true
+one_more_type rules filter before after one intent need_default listed some held =
+    let rest = rest_passes (unless (passes_action rules filter.actions intent.action) Action) _ held in
     both_pass _ _
     (first_passes _ _ held)
     (both_pass _ _
-    (data_of_more filter before after one intent.uri intent.mime listed some (first_passes _ _ rest))
-    (rest_passes (data_why filter intent.uri intent.mime) _ rest))
+    (data_of_more rules filter before after one intent.uri intent.mime listed some (first_passes _ _ rest))
+    (rest_passes (data_why rules filter intent.uri intent.mime) _ rest))

@@ -1,6 +1,8 @@
 -- Who an intent reaches, component by component, and why it doesn't reach the others.
-use Rattle.std.specs.Prelude.{ℕ, ℤ, pos, Bool, true, false, not, ◌&&◌, ◌==◌, List, [], ◌∷◌, ◌++◌, if◌then◌else◌, Option, Some, None, is_none, is_some, int_lt}
+use Rattle.std.specs.Prelude.{ℕ, ℤ, pos, Bool, true, false, not, ◌&&◌, ◌==◌, List, [], ◌∷◌, ◌++◌, filter, if◌then◌else◌, Option, Some, None, is_none, is_some, int_lt}
 use Rattle.std.specs.List.{list_any}
+use Rattle.am_types.specs.declared.device.Rules.{Rules}
+use Rattle.am_types.specs.declared.device.Rules.TheVariants.{Profile, Android12}
 use Rattle.am_types.specs.declared.intent.Intent.{Intent}
 use Rattle.am_types.specs.declared.intent.Component.{Component}
 use Rattle.am_types.specs.declared.filter.Filter.{Filter}
@@ -9,6 +11,8 @@ use Rattle.am_types.specs.declared.manifest.Kind.{Kind}
 use Rattle.am_types.specs.declared.manifest.Kind.TheVariants as kinds
 use Rattle.am_types.specs.declared.manifest.Decl.{Decl}
 use Rattle.am_types.specs.declared.device.Package.{Package}
+use Rattle.am_types.specs.declared.resolve.Candidate.{Candidate}
+use Rattle.am_types.specs.declared.resolve.Finding.{Finding}
 use Rattle.am_types.specs.declared.resolve.Hit.{Hit}
 use Rattle.am_types.specs.declared.resolve.Registration.{Registration}
 use Rattle.am_types.specs.declared.resolve.Target.{Target}
@@ -17,12 +21,14 @@ use Rattle.am_types.specs.declared.broadcast.Aim.TheVariants.{Declared, Register
 use Rattle.am_types.specs.declared.rule.Rule.{Rule}
 use Rattle.am_types.specs.declared.rule.Rule.TheVariants as rules
 use Rattle.am_model.specs.Texts.{is_same}
-use Rattle.am_model.specs.Filters.{why}
+use Rattle.am_model.specs.Cuts.{unfound_why, unheard_why}
 use Rattle.am_model.specs.Intents.{is_same_component}
 use Rattle.am_model.specs.Boards.{Board}
-use Rattle.am_model.specs.Candidates.{hits, is_in, is_kind, is_named, priority_of}
+use Rattle.am_model.specs.Candidates.{Search, finding_in, found_by, hits, is_in, is_kind, is_named}
 use Rattle.am_model.specs.Gates.{is_privileged, verdict}
-use Rattle.am_model.specs.Targets.{approves, host_to_view, is_approved, narrowed, takes_any_host, target}
+use Rattle.am_model.specs.Targets.{approves, choice, host_to_view, is_approved, takes_any_host, top}
+use Rattle.am_model.specs.Links.{Leading, admits, is_left, leading_of, may_start}
+use Rattle.am_model.specs.Starts.{left_by, phone_left}
 use Rattle.am_model.specs.Receivers.{Offer, is_for, is_protected, name_of, or_rule, registered_offer, rule_of, rule_where, skip_of}
 use Rattle.am_types.specs.declared.account.Narrowing.{Narrowing}
 use Rattle.am_types.specs.declared.account.Narrowing.TheVariants.{Approved, Browser, General}
@@ -68,11 +74,11 @@ abbrev pub listed : Option Why → List Why
 listed None = []
 listed (Some reason) = reason ∷ []
 
--- the reason for each filter that the intent doesn't pass
-abbrev pub reasons : Intent → Bool → List Filter → List Why
-reasons intent need_default [] = []
-reasons intent need_default (first ∷ others) =
-    listed (why first intent need_default) ++ reasons intent need_default others
+-- the reason for each filter that the intent doesn't find
+abbrev pub reasons : Rules → Intent → Bool → List Filter → List Why
+reasons rules intent need_default [] = []
+reasons rules intent need_default (first ∷ others) =
+    listed (unfound_why rules first intent need_default) ++ reasons rules intent need_default others
 
 -- refused by the rule, if there is one; else reached
 abbrev pub unless_refused : Option Rule → Standing
@@ -106,10 +112,6 @@ offer_to owner decl = record {
   permission = decl.permission;
 }
 
--- the hits that a start of the intent may reach: those that the narrowing leaves
-abbrev pub start_hits : Board → Intent → List Hit
-start_hits board intent = narrowed board intent (hits board.packages kinds.Activity intent true) (host_to_view intent)
-
 -- left out, unless it is kept
 abbrev pub unless_kept : Bool → Narrowing → Option Narrowing
 unless_kept true narrowing = None
@@ -136,7 +138,7 @@ left_out board (Some host) owner some_approved any_host = left_out_for_host boar
 abbrev pub is_some_approved : Board → Intent → Option (List ℕ) → Bool
 is_some_approved board intent None = false
 is_some_approved board intent (Some host) =
-    list_any (is_approved board.links host) (hits board.packages kinds.Activity intent true)
+    list_any (is_approved board.links host) (hits Profile board.packages kinds.Activity intent true)
 
 -- left out by the narrowing; else what follows
 abbrev pub unless_left_out : Option Narrowing → Standing → Standing
@@ -153,16 +155,65 @@ is_choice Nothing = false
 is_choice (One hit) = false
 is_choice (Choose several) = true
 
--- an activity that the intent finds with that priority
-abbrev pub found_activity : Board → Question → Package → Decl → ℤ → Standing
-found_activity board asked owner decl priority =
+-- outranked by one of the activities, or tied with one of them; else what follows
+abbrev pub contest : ℤ → List Hit → Standing → Standing
+contest priority left next =
+    if is_outranked priority left then Outranked else if is_choice (choice (top left)) then Tied else next
+
+-- the profile: an activity that the intent finds with that priority
+abbrev pub profile_found_activity : Board → Question → Package → Decl → ℤ → Standing
+profile_found_activity board asked owner decl priority =
     unless_left_out
     (left_out board (host_to_view asked.intent) owner
     (is_some_approved board asked.intent (host_to_view asked.intent))
     (list_any (takes_any_host asked.intent) decl.filters))
-    (if is_outranked priority (start_hits board asked.intent) then Outranked
-    else if is_choice (target board asked.intent) then Tied
-    else started board asked.caller owner decl)
+    (contest priority (left_by Profile board asked.intent) (started board asked.caller owner decl))
+
+-- what a link leaves an app out for: for the approved activity, or for browsers if there is none
+abbrev pub narrowing_of_app : Option Hit → Narrowing
+narrowing_of_app None = General
+narrowing_of_app (Some last) = Approved
+
+-- what a browser is left out for: for the approved activity, or for the device's browser if there is none
+abbrev pub narrowing_of_browser : Option Hit → Narrowing
+narrowing_of_browser None = Browser
+narrowing_of_browser (Some last) = Approved
+
+-- what a phone's narrowing leaves a candidate out for
+abbrev pub phone_left_out : Option Leading → Candidate → Option Narrowing
+phone_left_out None candidate = None
+phone_left_out (Some leads) candidate =
+    unless_kept (is_left leads candidate)
+    (if candidate.finding.browses then narrowing_of_browser leads.approved else narrowing_of_app leads.approved)
+
+-- a phone: an activity among those that are left. At a tie those that the caller may not start don't count
+abbrev pub phone_contest : Board → Question → Package → Decl → ℤ → List Hit → Standing
+phone_contest board asked owner decl priority left =
+    if not (is_choice (choice (top left))) then contest priority left (started board asked.caller owner decl)
+    else if not (admits (verdict board.grants asked.caller owner.uid decl.exported decl.permission))
+    then started board asked.caller owner decl
+    else contest priority (filter (may_start board asked.caller) left) (started board asked.caller owner decl)
+
+-- the component, found so, as a candidate; its place doesn't count
+abbrev pub as_candidate : Package → Decl → Finding → Candidate
+as_candidate owner decl finding = record {
+  hit = record { component = component_of owner decl; uid = owner.uid; place = 0; priority = finding.priority };
+  finding = finding;
+}
+
+-- a phone: an activity that the intent finds so
+abbrev pub phone_found_activity : Board → Question → Package → Decl → Finding → Standing
+phone_found_activity board asked owner decl finding =
+    let all = found_by Android12 board.packages kinds.Activity asked.intent true in
+    unless_left_out
+    (phone_left_out (leading_of board asked.intent true all) (as_candidate owner decl finding))
+    (phone_contest board asked owner decl finding.priority (phone_left board asked.intent true))
+
+-- an activity that the intent finds so
+abbrev pub found_activity : Rules → Board → Question → Package → Decl → Finding → Standing
+found_activity Profile board asked owner decl finding =
+    profile_found_activity board asked owner decl finding.priority
+found_activity Android12 board asked owner decl finding = phone_found_activity board asked owner decl finding
 
 -- the first of the components that were found, if there is one
 abbrev pub first_of : List Hit → Option Component
@@ -178,16 +229,16 @@ is_that (Some component) other = is_same_component component other
 abbrev pub found_service : Board → Question → Package → Decl → Standing
 found_service board asked owner decl =
     if is_none asked.intent.«package» then Refused rules.ImplicitService
-    else if not (is_that (first_of (hits board.packages kinds.Service asked.intent false)) (component_of owner decl))
+    else if not (is_that (first_of (hits board.rules board.packages kinds.Service asked.intent false)) (component_of owner decl))
     then Outranked
     else started board asked.caller owner decl
 
--- a component of which the intent passes filters, the greatest of them with that priority, or none
-abbrev pub found : Board → Question → Package → Decl → Option ℤ → Standing
-found board asked owner decl None = Filters (reasons asked.intent (needs_default asked.kind) decl.filters)
-found board asked owner decl (Some priority) =
+-- a component that the intent finds so, or doesn't find
+abbrev pub found : Board → Question → Package → Decl → Option Finding → Standing
+found board asked owner decl None = Filters (reasons board.rules asked.intent (needs_default asked.kind) decl.filters)
+found board asked owner decl (Some finding) =
     by_kind asked.kind
-    (found_activity board asked owner decl priority)
+    (found_activity board.rules board asked owner decl finding)
     (found_service board asked owner decl)
     (offered board asked (offer_to owner decl))
 
@@ -199,11 +250,20 @@ named board asked owner decl =
     (started board asked.caller owner decl)
     (offered board asked (offer_to owner decl))
 
+-- what is looked for to answer the question
+abbrev pub search_of : Board → Question → Search
+search_of board asked = record {
+  rules = board.rules;
+  kind = asked.kind;
+  intent = asked.intent;
+  need_default = needs_default asked.kind;
+}
+
 -- an enabled component that the intent names, or one that it may find by its filters
 abbrev pub enabled : Board → Question → Package → Decl → Option Component → Standing
 enabled board asked owner decl (Some component) = named board asked owner decl
 enabled board asked owner decl None =
-    found board asked owner decl (priority_of asked.kind asked.intent (needs_default asked.kind) decl.filters)
+    found board asked owner decl (finding_in board.rules (search_of board asked) decl.filters)
 
 -- the account of a component of the kind
 abbrev pub standing : Board → Question → Package → Decl → Standing
@@ -223,7 +283,7 @@ abbrev pub registered_standing : Board → Question → Registration → Standin
 registered_standing board asked r =
     if is_some asked.intent.component then OtherComponent
     else if not (is_for asked.intent.«package» (name_of board.packages r.uid)) then OtherPackage
-    else unless_failed (why r.filter asked.intent false) (offered board asked (registered_offer r))
+    else unless_failed (unheard_why board.rules r.filter asked.intent) (offered board asked (registered_offer r))
 
 -- the accounts of some components of a package, as far as they are of the kind
 abbrev pub accounts_from : Board → Question → Package → List Decl → List Account

@@ -5,13 +5,15 @@ use Rattle.am_types.specs.declared.device.Device.{Device}
 use Rattle.am_types.specs.declared.device.Package.{Package}
 use Rattle.am_types.specs.declared.device.Grant.{Grant}
 use Rattle.am_types.specs.declared.device.Link.{Link}
+use Rattle.am_types.specs.declared.device.Rules.{Rules}
 use Rattle.am_types.specs.declared.resolve.Registration.{Registration}
 use Rattle.am_model.specs.Rights.{grant_of, link_of, of_grant, of_link, with_right}
 use Rattle.am_model.specs.Texts.{is_same}
 
 -- packages in the order of their uids, grants by uid and permission, links by uid and host, registered receivers
--- by number; and the device's browser and its lists of protected and exempt actions
+-- by number; the device's browser and its lists of protected and exempt actions; and by whose rules it answers
 pub record Board : Type 0 where
+  pub rules : Rules
   pub packages : List Package
   pub grants : List Grant
   pub links : List Link
@@ -23,6 +25,7 @@ pub record Board : Type 0 where
 -- the board of a device on which nothing happened yet
 abbrev pub board_of : Device → Board
 board_of device = record {
+  rules = device.rules;
   packages = device.packages;
   grants = device.grants;
   links = device.links;

@@ -4,6 +4,7 @@ pub mod Uris
 pub mod MimeTypes
 pub mod Paths
 pub mod Filters
+pub mod Cuts
 pub mod Intents
 pub mod Candidates
 pub mod Rights
@@ -11,6 +12,8 @@ pub mod Boards
 pub mod Gates
 pub mod Targets
 pub mod Receivers
+pub mod Links
+pub mod Starts
 pub mod Accounts
 pub mod Broadcasts
 pub mod Sending

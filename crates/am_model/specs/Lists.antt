@@ -13,6 +13,17 @@ module _ {X : Type 0} (before : X → X → Bool) where
   place_of x [] = 0
   place_of x (first ∷ others) = if before x first then 0 else place_of x others + 1
 
+module _ {X : Type 0} (before : X → X → Bool) where
+  -- the others with one more, behind those that come before it and in front of the rest
+  abbrev pub placed : X → List X → List X
+  placed x [] = x ∷ []
+  placed x (first ∷ others) = if before first x then first ∷ placed x others else x ∷ first ∷ others
+
+  -- all in that order; ties keep their order
+  abbrev pub ordered : List X → List X
+  ordered [] = []
+  ordered (first ∷ others) = placed first (ordered others)
+
 module _ {X : Type 0} (priority : X → ℤ) where
   -- the others with one more, in front of those of no greater priority and after the rest
   abbrev pub place_by : X → List X → List X

@@ -9,6 +9,7 @@ use Rattle.am_types.specs.declared.manifest.Kind.{Kind}
 use Rattle.am_types.specs.declared.manifest.Kind.TheVariants.{Receiver}
 use Rattle.am_types.specs.declared.manifest.Decl.{Decl}
 use Rattle.am_types.specs.declared.device.Package.{Package}
+use Rattle.am_types.specs.declared.device.Rules.{Rules}
 use Rattle.am_types.specs.declared.resolve.Hit.{Hit}
 use Rattle.am_types.specs.declared.resolve.Registration.{Registration}
 use Rattle.am_types.specs.declared.broadcast.Aim.{Aim}
@@ -19,7 +20,7 @@ use Rattle.am_types.specs.declared.rule.Rule.{Rule}
 use Rattle.am_types.specs.declared.rule.Rule.TheVariants as rules
 use Rattle.am_model.specs.Lists.{falling_by}
 use Rattle.am_model.specs.Texts.{is_same, lists}
-use Rattle.am_model.specs.Filters.{passes}
+use Rattle.am_model.specs.Cuts.{hears}
 use Rattle.am_model.specs.Boards.{Board, package_at}
 use Rattle.am_model.specs.Candidates.{hits, is_kind}
 use Rattle.am_model.specs.Gates.{Verdict, Admit, NotExported, NeedsPermission, verdict, holds, is_privileged}
@@ -90,9 +91,9 @@ is_for None name = true
 is_for (Some limited) name = is_text limited name
 
 -- a registered receiver that the intent finds: it names no component, and no other package
-abbrev pub finds_registered : List Package → Intent → Registration → Bool
-finds_registered packages intent r =
-    (is_none intent.component && is_for intent.«package» (name_of packages r.uid)) && passes r.filter intent false
+abbrev pub finds_registered : Rules → List Package → Intent → Registration → Bool
+finds_registered rules packages intent r =
+    (is_none intent.component && is_for intent.«package» (name_of packages r.uid)) && hears rules r.filter intent
 
 -- the offer to a registered receiver, which counts as exported
 abbrev pub registered_offer : Registration → Offer
@@ -114,8 +115,8 @@ in_order found = falling_by (λ (o : Offer). o.priority) found
 -- by uid and place
 abbrev pub offers : Board → Intent → List Offer
 offers board intent =
-    in_order (map registered_offer (filter (finds_registered board.packages intent) board.registered)
-    ++ declared_offers board.packages (hits board.packages Receiver intent false))
+    in_order (map registered_offer (filter (finds_registered board.rules board.packages intent) board.registered)
+    ++ declared_offers board.packages (hits board.rules board.packages Receiver intent false))
 
 -- the first of two rules
 abbrev pub or_rule : Option Rule → Option Rule → Option Rule

@@ -1,11 +1,11 @@
--- Which activity a start reaches.
+-- How the profile narrows a web intent, and which of several hits count.
 use Rattle.std.specs.Prelude.{ℕ, Bool, true, false, ◌&&◌, ◌||◌, ◌==◌, codes, List, [], ◌∷◌, filter, if◌then◌else◌, Option, Some, None, is_none}
 use Rattle.std.specs.List.{list_any, list_all, take_while}
 use Rattle.std.specs.Ordering.{int_eq}
+use Rattle.am_types.specs.declared.device.Rules.TheVariants.{Profile}
 use Rattle.am_types.specs.declared.intent.Intent.{Intent}
 use Rattle.am_types.specs.declared.uri.Uri.{Uri}
 use Rattle.am_types.specs.declared.filter.Filter.{Filter}
-use Rattle.am_types.specs.declared.manifest.Kind.TheVariants.{Activity}
 use Rattle.am_types.specs.declared.manifest.Decl.{Decl}
 use Rattle.am_types.specs.declared.device.Package.{Package}
 use Rattle.am_types.specs.declared.device.Link.{Link}
@@ -15,11 +15,7 @@ use Rattle.am_types.specs.declared.resolve.Target.TheVariants.{Nothing, One, Cho
 use Rattle.am_model.specs.Texts.{is_same, lowered}
 use Rattle.am_model.specs.Filters.{default_category, is_empty, passes}
 use Rattle.am_model.specs.Boards.{Board}
-use Rattle.am_model.specs.Candidates.{hits}
-
--- the scheme of web pages, with or without encryption
-abbrev pub is_web_scheme : List ℕ → Bool
-is_web_scheme scheme = is_same scheme (codes "http") || is_same scheme (codes "https")
+use Rattle.am_model.specs.Candidates.{is_web_scheme}
 
 -- a host that isn't empty, if there is one
 abbrev pub named_host : Option (List ℕ) → Option (List ℕ)
@@ -60,7 +56,7 @@ is_approved links host hit = approves links host hit.uid
 
 -- a filter that the intent passes and that lists no authority
 abbrev pub takes_any_host : Intent → Filter → Bool
-takes_any_host intent filter = passes filter intent true && is_empty filter.authorities
+takes_any_host intent filter = passes Profile filter intent true && is_empty filter.authorities
 
 -- the hit is the component that a package declares
 abbrev pub is_hit_of : Package → Decl → Hit → Bool
@@ -85,9 +81,9 @@ web_hits board intent found host =
     else browser_hits board intent found board.browser
 
 -- the hits that are left after narrowing, which only a web intent undergoes
-abbrev pub narrowed : Board → Intent → List Hit → Option (List ℕ) → List Hit
-narrowed board intent found None = found
-narrowed board intent found (Some host) = web_hits board intent found host
+abbrev pub profile_narrowed : Board → Intent → List Hit → Option (List ℕ) → List Hit
+profile_narrowed board intent found None = found
+profile_narrowed board intent found (Some host) = web_hits board intent found host
 
 -- of the hits, which come by falling priority, those that share the greatest one
 abbrev pub top : List Hit → List Hit
@@ -99,8 +95,3 @@ abbrev pub choice : List Hit → Target
 choice [] = Nothing
 choice (hit ∷ []) = One hit
 choice (hit ∷ other ∷ others) = Choose (hit ∷ other ∷ others)
-
--- which activity a start of the intent reaches
-abbrev pub target : Board → Intent → Target
-target board intent =
-    choice (top (narrowed board intent (hits board.packages Activity intent true) (host_to_view intent)))

@@ -15,7 +15,7 @@ use Rattle.am_model.specs.Texts.{is_same, lists, lowered}
 use Rattle.am_model.specs.Filters.{is_empty, has_host}
 use Rattle.am_model.specs.MimeTypes.{passes_type}
 use Rattle.am_model.specs.Boards.{Board, package_at}
-use Rattle.am_model.specs.Candidates.{hits}
+use Rattle.am_model.specs.Starts.{query_hits}
 use Rattle.am_model.specs.Gates.{holds, is_privileged}
 
 -- the scheme that a signature asks for; with a type and without a scheme it is `content`
@@ -109,4 +109,4 @@ sees board queries caller uid =
 -- the hits of a query whose packages the caller sees
 abbrev pub visible : Board → List Queries → ℕ → Kind → Intent → Bool → List Hit
 visible board queries caller kind intent need_default =
-    filter (λ (hit : Hit). sees board queries caller hit.uid) (hits board.packages kind intent need_default)
+    filter (λ (hit : Hit). sees board queries caller hit.uid) (query_hits board kind intent need_default)

@@ -5,13 +5,16 @@ use Rattle.std.specs.Prelude.{int_lt, pos}
 use Rattle.std.proofs.lemmas.List.Elements.{recursion_from_All}
 use Rattle.std.proofs.lemmas.Bool.{false≢true}
 use Rattle.am_types.specs.declared.device.Package.{Package}
+use Rattle.am_types.specs.declared.device.Rules.TheVariants.{Profile}
 use Rattle.am_types.specs.declared.intent.Component.{Component}
 use Rattle.am_types.specs.declared.intent.Intent.{Intent}
 use Rattle.am_types.specs.declared.manifest.Decl.{Decl}
 use Rattle.am_types.specs.declared.manifest.Kind.{Kind}
-use Rattle.am_types.specs.declared.resolve.Hit.{Hit}
+use Rattle.am_types.specs.declared.resolve.Candidate.{Candidate}
+use Rattle.am_types.specs.declared.resolve.Finding.{Finding}
 use Rattle.am_model.specs.Boards.{package_at}
-use Rattle.am_model.specs.Candidates.{Search, by_priority, hit_at, hit_of, hits, hits_from, hits_in, is_in, is_kind, is_named, place_hit, priority_of}
+use Rattle.am_model.specs.Candidates.{Search, candidate_at, candidate_of, candidates, candidates_from, finding_in, hits, hits_of, is_in, is_kind, is_named, plain_finding, profile_order}
+use Rattle.am_model.specs.Lists.{place_by}
 use Rattle.am_model.specs.Sound.{AreDistinct, classes_of}
 use Rattle.am_model.specs.Texts.{is_same}
 use Rattle.am_installed.specs.Installed.{AreInstalled, IsInstalled}
@@ -77,77 +80,79 @@ add_le a b c d h k = omega (arith, h, k)
 module _ (packages : List Package) (intent : Intent) (kind : Kind) (need_default : Bool) where
   -- what is looked for
   abbrev what : Search
-  what = record { kind = kind; intent = intent; need_default = need_default }
+  what = record { rules = Profile; kind = kind; intent = intent; need_default = need_default }
 
-  cost-append : (xs ys : List Hit) → cost_of packages intent (xs ++ ys)
-      ≡ cost_of packages intent xs + cost_of packages intent ys
-  cost-append [] ys = sym (zero-add (cost_of packages intent ys))
-  cost-append (x ∷ xs) ys =
-      ap (λ n. cost_at intent x.component.class (package_at packages x.uid) + n) (cost-append xs ys)
-      ∙ assoc (cost_at intent x.component.class (package_at packages x.uid)) (cost_of packages intent xs)
-      (cost_of packages intent ys)
+  -- how many tests narrowing takes of some candidates
+  abbrev cost : List Candidate → ℕ
+  cost found = cost_of packages intent (hits_of found)
+
+  -- of one candidate
+  abbrev alone : Candidate → ℕ
+  alone c = cost_at intent c.hit.component.class (package_at packages c.hit.uid)
+
+  cost-append : (xs ys : List Candidate) → cost (xs ++ ys) ≡ cost xs + cost ys
+  cost-append [] ys = sym (zero-add (cost ys))
+  cost-append (x ∷ xs) ys = ap (λ n. alone x + n) (cost-append xs ys) ∙ assoc (alone x) (cost xs) (cost ys)
     where
       assoc : (a b c : ℕ) → a + (b + c) ≡ (a + b) + c
       assoc a b c = omega arith
 
-  cost-place : (h : Hit) (hs : List Hit) → cost_of packages intent (place_hit h hs) ≡ cost_of packages intent (h ∷ hs)
-  cost-place h [] = refl
-  cost-place h (x ∷ xs) = by (int_lt h.priority x.priority) (cost-place h xs)
+  -- placing by priority
+  abbrev place : Candidate → List Candidate → List Candidate
+  place c others = place_by (λ (c : Candidate). c.hit.priority) c others
+
+  cost-place : (c : Candidate) (others : List Candidate) → cost (place c others) ≡ cost (c ∷ others)
+  cost-place c [] = refl
+  cost-place c (x ∷ xs) = by (int_lt c.hit.priority x.hit.priority) (cost-place c xs)
     where
       swap : (a b c : ℕ) → a + (b + c) ≡ b + (a + c)
       swap a b c = omega arith
 
-      by : (b : Bool) → cost_of packages intent (place_hit h xs) ≡ cost_of packages intent (h ∷ xs)
-          → cost_of packages intent (cond b (x ∷ place_hit h xs) (h ∷ x ∷ xs)) ≡ cost_of packages intent (h ∷ x ∷ xs)
-      by true e =
-          ap (λ n. cost_at intent x.component.class (package_at packages x.uid) + n) e
-          ∙ swap (cost_at intent x.component.class (package_at packages x.uid))
-          (cost_at intent h.component.class (package_at packages h.uid)) (cost_of packages intent xs)
+      by : (b : Bool) → cost (place c xs) ≡ cost (c ∷ xs)
+          → cost (cond b (x ∷ place c xs) (c ∷ x ∷ xs)) ≡ cost (c ∷ x ∷ xs)
+      by true e = ap (λ n. alone x + n) e ∙ swap (alone x) (alone c) (cost xs)
       by false e = refl
 
-  cost-by_priority : (hs : List Hit) → cost_of packages intent (by_priority hs) ≡ cost_of packages intent hs
-  cost-by_priority [] = refl
-  cost-by_priority (h ∷ hs) =
-      cost-place h (by_priority hs) ∙ ap (λ n. cost_at intent h.component.class (package_at packages h.uid) + n)
-      (cost-by_priority hs)
+  cost-order : (found : List Candidate) → cost (profile_order found) ≡ cost found
+  cost-order [] = refl
+  cost-order (c ∷ others) = cost-place c (profile_order others) ∙ ap (λ n. alone c + n) (cost-order others)
 
   module _ (owner : Package) (found : package_at packages owner.uid ≡ Some owner) where
-    -- a hit of a component costs no more than the component
-    one : (place : ℕ) (d : Decl) (p : Option ℤ) → cost_in intent d.class owner.decls ≡ own intent d
-        → cost_of packages intent (hit_at owner place d p) ≤ own intent d
+    -- a candidate costs no more than its component
+    one : (place : ℕ) (d : Decl) (finding : Option Finding) → cost_in intent d.class owner.decls ≡ own intent d
+        → cost (candidate_at owner place d finding) ≤ own intent d
     one place d None e = omega arith
-    one place d (Some p) e =
+    one place d (Some finding) e =
         let is : cost_at intent d.class (package_at packages owner.uid)
         ≡ own intent d = ap (cost_at intent d.class) found ∙ e in
         omega (arith, is)
 
-    when : (b : Bool) (hs : List Hit) (n : ℕ) → cost_of packages intent hs ≤ n
-        → cost_of packages intent (cond b hs []) ≤ n
-    when true hs n h = h
-    when false hs n h = omega arith
+    when : (b : Bool) (cs : List Candidate) (n : ℕ) → cost cs ≤ n → cost (cond b cs []) ≤ n
+    when true cs n h = h
+    when false cs n h = omega arith
 
     of_decl : (place : ℕ) (d : Decl) (c : Option Component) → cost_in intent d.class owner.decls ≡ own intent d
-        → cost_of packages intent (hit_of what owner place d c) ≤ own intent d
-    of_decl place d (Some c) e = when (is_named c owner.name d.class) _ _ (one place d (Some (pos 0)) e)
+        → cost (candidate_of what owner place d c) ≤ own intent d
+    of_decl place d (Some c) e = when (is_named c owner.name d.class) _ _
+        (one place d (Some (plain_finding (pos 0))) e)
     of_decl place d None e = when (is_in intent.«package» owner) _ _
-        (one place d (priority_of kind intent need_default d.filters) e)
+        (one place d (finding_in Profile what d.filters) e)
 
     -- and those of some components no more than these
     from : (position place : ℕ) (ds : List Decl) → AllByRecursion (λ (d : Decl). cost_in intent d.class owner.decls
         ≡ own intent d) ds
-        → cost_of packages intent (hits_from what owner place ds) ≤ size_of intent
-        (members_from kind owner position place ds)
+        → cost (candidates_from what owner place ds) ≤ size_of intent (members_from kind owner position place ds)
     from position place [] a = omega arith
     from position place (d ∷ ds) a =
         by (is_kind kind d.kind) d.enabled (from (position + 1) (place + 1) ds a.1) (from (position + 1) place ds a.1)
       where
         by : (k enabled : Bool)
-            → cost_of packages intent (hits_from what owner (place + 1) ds) ≤ size_of intent
+            → cost (candidates_from what owner (place + 1) ds) ≤ size_of intent
             (members_from kind owner (position + 1) (place + 1) ds)
-            → cost_of packages intent (hits_from what owner place ds) ≤ size_of intent
+            → cost (candidates_from what owner place ds) ≤ size_of intent
             (members_from kind owner (position + 1) place ds)
-            → cost_of packages intent (cond k (cond enabled (hit_of what owner place d intent.component) []
-            ++ hits_from what owner (place + 1) ds) (hits_from what owner place ds))
+            → cost (cond k (cond enabled (candidate_of what owner place d intent.component) []
+            ++ candidates_from what owner (place + 1) ds) (candidates_from what owner place ds))
             ≤ size_of intent (cond k (cond enabled (record {
               owner = owner;
               position = position;
@@ -157,8 +162,8 @@ module _ (packages : List Package) (intent : Intent) (kind : Kind) (need_default
             (members_from kind owner (position + 1) (place + 1) ds))
             (members_from kind owner (position + 1) place ds))
         by true true next other =
-            let joined = cost-append (hit_of what owner place d intent.component) (hits_from what owner (place + 1) ds)
-            in
+            let joined = cost-append (candidate_of what owner place d intent.component)
+            (candidates_from what owner (place + 1) ds) in
             rw joined (add_le _ _ _ _ (of_decl place d intent.component a.0) next)
         by true false next other = next
         by false enabled next other = other
@@ -172,20 +177,20 @@ module _ (packages : List Package) (intent : Intent) (kind : Kind) (need_default
       assoc a b c = omega arith
 
   of_packages : (ps : List Package) → Found packages ps → AllByRecursion IsInstalled ps
-      → cost_of packages intent (hits_in what ps) ≤ size_of intent (members kind ps)
+      → cost (candidates what ps) ≤ size_of intent (members kind ps)
   of_packages [] f i = omega arith
   of_packages (p ∷ ps) f i =
       rw (
-        cost-append (hits_from what p 0 p.decls) (hits_in what ps),
+        cost-append (candidates_from what p 0 p.decls) (candidates what ps),
         size-append (members_from kind p 0 0 p.decls)
             (members kind ps),
       )
       (add_le _ _ _ _ (from p f.0 0 0 p.decls (each_own intent p.decls i.0.classes)) (of_packages ps f.1 i.1))
 
   -- narrowing what was found takes at most as many tests as the group has filters
-  pub narrowing_cost : AreInstalled packages → cost_of packages intent (hits packages kind intent need_default) ≤
-      group_size packages kind intent
+  pub narrowing_cost : AreInstalled packages
+      → cost_of packages intent (hits Profile packages kind intent need_default) ≤ group_size packages kind intent
   narrowing_cost installed =
-      rw (cost-by_priority (hits_in what packages))
+      rw (cost-order (candidates what packages))
       (of_packages packages (each_found packages (rises packages installed.rising))
       (recursion_from_All IsInstalled packages installed.each))

@@ -2,6 +2,7 @@
 use Rattle.std.proofs.Common.{◌≡◌, ℕ, ◌+◌, ◌<◌, ℤ, pos, Bool, true, false, cond, eqb, List, [], ◌∷◌, ◌++◌, Option, Some, None, refl, sym, ap, ◌∙◌}
 use Rattle.std.specs.Prelude.{int_lt}
 use Rattle.std.specs.List.{AllByRecursion, IsDistinct}
+use Rattle.std.specs.Ordering.{is_lt}
 use Rattle.std.specs.Cmp.Lexicographic.{nat_list_eq_equiv}
 use Rattle.std.proofs.lemmas.Bool.{eq-eqb}
 use Rattle.am_types.specs.declared.intent.Component.{Component}
@@ -9,9 +10,14 @@ use Rattle.am_types.specs.declared.intent.Intent.{Intent}
 use Rattle.am_types.specs.declared.manifest.Kind.TheVariants.{Receiver}
 use Rattle.am_types.specs.declared.manifest.Decl.{Decl}
 use Rattle.am_types.specs.declared.device.Package.{Package}
+use Rattle.am_types.specs.declared.device.Rules.{Rules}
+use Rattle.am_types.specs.declared.device.Rules.TheVariants.{Profile, Android12}
+use Rattle.am_types.specs.declared.resolve.Candidate.{Candidate}
+use Rattle.am_types.specs.declared.resolve.Finding.{Finding}
 use Rattle.am_types.specs.declared.resolve.Hit.{Hit}
 use Rattle.am_model.specs.Boards.{package_at}
-use Rattle.am_model.specs.Candidates.{Search, by_priority, enabled_hit, hit_at, hit_of, hits, hits_from, hits_in, implicit_hit, is_in, is_kind, is_named, place_hit, priority_of}
+use Rattle.am_model.specs.Candidates.{Search, candidate_at, candidate_of, candidates, candidates_from, enabled_candidate, finding_in, hits, hits_of, implicit_candidate, in_turn, is_in, is_kind, is_named, phone_cmp, phone_order, plain_finding, profile_order}
+use Rattle.am_model.specs.Lists.{place_by, placed}
 use Rattle.am_model.specs.Receivers.{decl_in, declared, with_uid}
 use Rattle.am_model.specs.Sound.{AreDistinct, names_of}
 use Rattle.am_model.specs.Texts.{is_same}
@@ -76,88 +82,123 @@ unfolding IsDistinct
 each_own [] r d = tt
 each_own (p ∷ ps) r d = (first_own p ps, all_still_own p ps ps r.0 d.0 (each_own ps r.1 d.1))
 
--- what holds of the hits of two lists holds of both together
-all_append : (Q : Hit → Type 0) (hs others : List Hit) → AllByRecursion Q hs → AllByRecursion Q others
-    → AllByRecursion Q (hs ++ others)
+-- what holds of the candidates of two lists holds of both together
+all_append : (Q : Candidate → Type 0) (cs others : List Candidate) → AllByRecursion Q cs → AllByRecursion Q others
+    → AllByRecursion Q (cs ++ others)
 all_append Q [] others a b = b
-all_append Q (h ∷ hs) others a b = (a.0, all_append Q hs others a.1 b)
+all_append Q (c ∷ cs) others a b = (a.0, all_append Q cs others a.1 b)
 
 -- and of those of one of them
-all_either : (Q : Hit → Type 0) (b : Bool) (hs others : List Hit) → AllByRecursion Q hs → AllByRecursion Q others
-    → AllByRecursion Q (cond b hs others)
-all_either Q true hs others a b = a
-all_either Q false hs others a b = b
+all_either : (Q : Candidate → Type 0) (b : Bool) (cs others : List Candidate) → AllByRecursion Q cs
+    → AllByRecursion Q others → AllByRecursion Q (cond b cs others)
+all_either Q true cs others a b = a
+all_either Q false cs others a b = b
 
-module _ (Q : Hit → Type 0) (what : Search) where
-  -- it holds of each hit of the package
-  abbrev HoldsOf : Package → Type 0
-  HoldsOf p = (place : ℕ) (decl : Decl) (priority : ℤ) → Q (record {
-    component = record { «package» = p.name; class = decl.class };
-    uid = p.uid;
-    place = place;
-    priority = priority;
+module _ (Q : Candidate → Type 0) where
+  -- it still holds of each once they are in order
+  all_placed : (c : Candidate) (cs : List Candidate) → Q c → AllByRecursion Q cs
+      → AllByRecursion Q (place_by (λ (c : Candidate). c.hit.priority) c cs)
+  all_placed c [] q a = (q, tt)
+  all_placed c (first ∷ others) q a =
+      all_either Q (int_lt c.hit.priority first.hit.priority)
+      (first ∷ place_by (λ (c : Candidate). c.hit.priority) c others) (c ∷ first ∷ others)
+      (a.0, all_placed c others q a.1) (q, a)
+
+  all_profile_order : (cs : List Candidate) → AllByRecursion Q cs → AllByRecursion Q (profile_order cs)
+  all_profile_order [] a = tt
+  all_profile_order (c ∷ cs) a = all_placed c (profile_order cs) a.0 (all_profile_order cs a.1)
+
+  all_put : (c : Candidate) (cs : List Candidate) → Q c → AllByRecursion Q cs
+      → AllByRecursion Q (placed (λ (a b : Candidate). is_lt (phone_cmp a b)) c cs)
+  all_put c [] q a = (q, tt)
+  all_put c (first ∷ others) q a =
+      all_either Q (is_lt (phone_cmp first c))
+      (first ∷ placed (λ (a b : Candidate). is_lt (phone_cmp a b)) c others) (c ∷ first ∷ others)
+      (a.0, all_put c others q a.1) (q, a)
+
+  all_phone_order : (cs : List Candidate) → AllByRecursion Q cs → AllByRecursion Q (phone_order cs)
+  all_phone_order [] a = tt
+  all_phone_order (c ∷ cs) a = all_put c (phone_order cs) a.0 (all_phone_order cs a.1)
+
+  pub all_in_turn : (rules : Rules) (cs : List Candidate) → AllByRecursion Q cs → AllByRecursion Q (in_turn rules cs)
+  all_in_turn Profile cs a = all_profile_order cs a
+  all_in_turn Android12 cs a = all_phone_order cs a
+
+module _ (Q : Candidate → Type 0) (what : Search) where
+  -- it holds of each candidate of the package
+  abbrev pub HoldsOf : Package → Type 0
+  HoldsOf p = (place : ℕ) (decl : Decl) (finding : Finding) → Q (record {
+    hit = record {
+      component = record { «package» = p.name; class = decl.class };
+      uid = p.uid;
+      place = place;
+      priority = finding.priority;
+    };
+    finding = finding;
   })
 
-  all_at : (p : Package) → HoldsOf p → (place : ℕ) (decl : Decl) (priority : Option ℤ)
-      → AllByRecursion Q (hit_at p place decl priority)
+  all_at : (p : Package) → HoldsOf p → (place : ℕ) (decl : Decl) (finding : Option Finding)
+      → AllByRecursion Q (candidate_at p place decl finding)
   all_at p holds place decl None = tt
-  all_at p holds place decl (Some priority) = (holds place decl priority, tt)
+  all_at p holds place decl (Some finding) = (holds place decl finding, tt)
 
   all_of : (p : Package) → HoldsOf p → (place : ℕ) (decl : Decl) (component : Option Component)
-      → AllByRecursion Q (hit_of what p place decl component)
+      → AllByRecursion Q (candidate_of what p place decl component)
   all_of p holds place decl (Some component) =
-      all_either Q (is_named component p.name decl.class) (hit_at p place decl (Some (pos 0))) []
-      (all_at p holds place decl (Some (pos 0))) tt
+      all_either Q (is_named component p.name decl.class)
+      (candidate_at p place decl (Some (plain_finding (pos 0)))) []
+      (all_at p holds place decl (Some (plain_finding (pos 0)))) tt
   all_of p holds place decl None =
-      all_either Q (is_in what.intent.«package» p) (implicit_hit what p place decl) []
-      (all_at p holds place decl (priority_of what.kind what.intent what.need_default decl.filters)) tt
+      all_either Q (is_in what.intent.«package» p) (implicit_candidate what p place decl) []
+      (all_at p holds place decl (finding_in what.rules what decl.filters)) tt
 
   all_from : (p : Package) → HoldsOf p → (place : ℕ) (decls : List Decl)
-      → AllByRecursion Q (hits_from what p place decls)
+      → AllByRecursion Q (candidates_from what p place decls)
   all_from p holds place [] = tt
   all_from p holds place (first ∷ others) =
       all_either Q (is_kind what.kind first.kind)
-      (enabled_hit what p place first ++ hits_from what p (place + 1) others)
-      (hits_from what p place others)
-      (all_append Q (enabled_hit what p place first) (hits_from what p (place + 1) others)
-      (all_either Q first.enabled (hit_of what p place first what.intent.component) []
+      (enabled_candidate what p place first ++ candidates_from what p (place + 1) others)
+      (candidates_from what p place others)
+      (all_append Q (enabled_candidate what p place first) (candidates_from what p (place + 1) others)
+      (all_either Q first.enabled (candidate_of what p place first what.intent.component) []
       (all_of p holds place first what.intent.component) tt)
       (all_from p holds (place + 1) others))
       (all_from p holds place others)
 
-  all_candidates : (ps : List Package) → AllByRecursion HoldsOf ps → AllByRecursion Q (hits_in what ps)
+  pub all_candidates : (ps : List Package) → AllByRecursion HoldsOf ps → AllByRecursion Q (candidates what ps)
   all_candidates [] holds = tt
   all_candidates (p ∷ ps) holds =
-      all_append Q (hits_from what p 0 p.decls) (hits_in what ps) (all_from p holds.0 0 p.decls)
+      all_append Q (candidates_from what p 0 p.decls) (candidates what ps) (all_from p holds.0 0 p.decls)
       (all_candidates ps holds.1)
 
-  all_placed : (h : Hit) (hs : List Hit) → Q h → AllByRecursion Q hs → AllByRecursion Q (place_hit h hs)
-  all_placed h [] q a = (q, tt)
-  all_placed h (first ∷ others) q a =
-      all_either Q (int_lt h.priority first.priority) (first ∷ place_hit h others) (h ∷ first ∷ others)
-      (a.0, all_placed h others q a.1) (q, a)
-
-  all_by_priority : (hs : List Hit) → AllByRecursion Q hs → AllByRecursion Q (by_priority hs)
-  all_by_priority [] a = tt
-  all_by_priority (h ∷ hs) a = all_placed h (by_priority hs) a.0 (all_by_priority hs a.1)
+-- what holds of the hit of each candidate holds of each hit
+pub all_hits : (Q : Hit → Type 0) (cs : List Candidate) → AllByRecursion (λ (c : Candidate). Q c.hit) cs
+    → AllByRecursion Q (hits_of cs)
+all_hits Q [] a = tt
+all_hits Q (c ∷ cs) a = (a.0, all_hits Q cs a.1)
 
 -- the component of a hit, as it is found by its name, is found by its uid
 abbrev pub IsFoundByUid : List Package → Hit → Type 0
 IsFoundByUid packages hit = declared packages Receiver hit.component ≡ with_uid hit.uid (decl_at packages hit)
 
 -- receivers that the intent finds
-abbrev receivers_of : Intent → Search
-receivers_of intent = record { kind = Receiver; intent = intent; need_default = false }
+abbrev receivers_of : Rules → Intent → Search
+receivers_of rules intent = record { rules = rules; kind = Receiver; intent = intent; need_default = false }
 
-own_hits : (packages : List Package) (intent : Intent) (ps : List Package) → AllByRecursion (IsOwn packages) ps
-    → AllByRecursion (HoldsOf (IsFoundByUid packages) (receivers_of intent)) ps
-own_hits packages intent [] own = tt
-own_hits packages intent (p ∷ ps) own = (λ place decl priority. own.0 decl.class, own_hits packages intent ps own.1)
+own_hits : (rules : Rules) (packages : List Package) (intent : Intent) (ps : List Package)
+    → AllByRecursion (IsOwn packages) ps
+    → AllByRecursion (HoldsOf (λ (c : Candidate). IsFoundByUid packages c.hit) (receivers_of rules intent)) ps
+own_hits rules packages intent [] own = tt
+own_hits rules packages intent (p ∷ ps) own =
+    (λ place decl finding. own.0 decl.class, own_hits rules packages intent ps own.1)
 
 -- each hit's component is found by its uid
-pub hits_found_by_uid : (packages : List Package) (intent : Intent) → AreInstalled packages
-    → AllByRecursion (IsFoundByUid packages) (hits packages Receiver intent false)
-hits_found_by_uid packages intent installed =
-    all_by_priority (IsFoundByUid packages) (receivers_of intent) (hits_in (receivers_of intent) packages)
-    (all_candidates (IsFoundByUid packages) (receivers_of intent) packages
-    (own_hits packages intent packages (each_own packages (rises packages installed.rising) installed.names)))
+pub hits_found_by_uid : (rules : Rules) (packages : List Package) (intent : Intent) → AreInstalled packages
+    → AllByRecursion (IsFoundByUid packages) (hits rules packages Receiver intent false)
+hits_found_by_uid rules packages intent installed =
+    let Q = λ (c : Candidate). IsFoundByUid packages c.hit in
+    let what = receivers_of rules intent in
+    all_hits (IsFoundByUid packages) (in_turn rules (candidates what packages))
+    (all_in_turn Q rules (candidates what packages)
+    (all_candidates Q what packages
+    (own_hits rules packages intent packages (each_own packages (rises packages installed.rising) installed.names))))

@@ -65,15 +65,15 @@ module _ (sent : Broadcast) where
 
   -- the registered receivers that the intent finds
   of_registered : (rs : List Registration) → ranked_of_registered sent rs
-      ≡ map ranked (map registered_offer (filter (finds_registered board.packages intent) rs))
+      ≡ map ranked (map registered_offer (filter (finds_registered board.rules board.packages intent) rs))
   of_registered [] = refl
-  of_registered (r ∷ rs) = by (finds_registered board.packages intent r) (of_registered rs)
+  of_registered (r ∷ rs) = by (finds_registered board.rules board.packages intent r) (of_registered rs)
     where
       by : (b : Bool) → ranked_of_registered sent rs
-          ≡ map ranked (map registered_offer (filter (finds_registered board.packages intent) rs))
+          ≡ map ranked (map registered_offer (filter (finds_registered board.rules board.packages intent) rs))
           → cond b (ranked (registered_offer r) ∷ []) [] ++ ranked_of_registered sent rs
-          ≡ map ranked (map registered_offer (cond b (r ∷ filter (finds_registered board.packages intent) rs)
-          (filter (finds_registered board.packages intent) rs)))
+          ≡ map ranked (map registered_offer (cond b (r ∷ filter (finds_registered board.rules board.packages intent) rs)
+          (filter (finds_registered board.rules board.packages intent) rs)))
       by true e = ap (λ l. ranked (registered_offer r) ∷ l) e
       by false e = e
 
@@ -100,11 +100,11 @@ module _ (sent : Broadcast) where
 
   -- what becomes of all offers, in order, is what the definition says
   pub ranked_is_receivers : map receiving_of (in_rank (ranked_of_registered sent board.registered
-      ++ map ranked (declared_offers board.packages (hits board.packages Receiver intent false))))
+      ++ map ranked (declared_offers board.packages (hits board.rules board.packages Receiver intent false))))
       ≡ receivers board intent sent.sender (option_copied sent.required)
   ranked_is_receivers =
-      let registered = map registered_offer (filter (finds_registered board.packages intent) board.registered) in
-      let listed = declared_offers board.packages (hits board.packages Receiver intent false) in
+      let registered = map registered_offer (filter (finds_registered board.rules board.packages intent) board.registered) in
+      let listed = declared_offers board.packages (hits board.rules board.packages Receiver intent false) in
       ap (λ l. map receiving_of (in_rank (l ++ map ranked listed))) (of_registered board.registered)
       ∙ ap (λ l. map receiving_of (in_rank l)) (sym (map-append ranked registered listed))
       ∙ ap (map receiving_of) (in_rank-ranked (registered ++ listed))

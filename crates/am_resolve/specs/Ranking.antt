@@ -37,7 +37,7 @@ ranked_of sent offer = record {
 -- what becomes of the offer to a registered receiver, if the intent finds it
 abbrev pub ranked_of_registration : Broadcast → Registration → List Ranked
 ranked_of_registration sent r =
-    if finds_registered sent.installed.now.packages sent.intent.now r then ranked_of sent (registered_offer r) ∷ []
+    if finds_registered sent.installed.now.rules sent.installed.now.packages sent.intent.now r then ranked_of sent (registered_offer r) ∷ []
     else []
 
 -- what becomes of the offers to several

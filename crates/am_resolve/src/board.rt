@@ -1,26 +1,32 @@
 //! What is installed, with its index.
 ghost use Rattle.std.specs.Prelude.{◌≡◌, ◌∷◌, ◌++◌, ◌+◌, ◌*◌, ◌≤◌, [], not, ◌==◌, false, filter, length, IfOk, IsOk, IsSome, OnOk, OnErr, option_copied};
 ghost use Rattle.std.specs.Option.{option_map};
+ghost use Rattle.am_types.specs.declared.device.Rules.TheVariants.{Android12, Profile};
 ghost use Rattle.am_types.specs.declared.manifest.Kind.TheVariants.{Activity, Receiver};
 ghost use Rattle.am_types.specs.declared.resolve.Registration.{Registration};
 ghost use Rattle.am_model.specs.Boards.{board_of, grants_without, links_without, package_at, package_named, registered_without, with_grant, with_link, with_stopped, without_package};
-ghost use Rattle.am_model.specs.Candidates.{hits};
+ghost use Rattle.am_model.specs.Candidates.{found_by, hits, hits_of};
+ghost use Rattle.am_model.specs.Links.{leading_of, phone_narrowed};
 ghost use Rattle.am_model.specs.Receivers.{declared, receivers};
 ghost use Rattle.am_model.specs.Sound.{IsSound};
-ghost use Rattle.am_model.specs.Targets.{target};
+ghost use Rattle.am_model.specs.Starts.{left_by, phone_shown, query_hits, target};
+ghost use Rattle.am_model.specs.Targets.{choice, top};
 ghost use Rattle.am_installed.specs.Installed.{AreGrantsInOrder, AreInstalled, AreLinksInOrder};
 ghost use Rattle.am_installed.specs.Places.{AreByNumber, place_registered};
 ghost use Rattle.am_index.specs.Groups.{group_size};
+ghost use Rattle.am_links.specs.Led.{led_by};
 
+use crate::choice::phone_choice;
 use crate::narrow::{host_to_view, web_hits};
 use crate::offers::Broadcast;
 use crate::receivers::receivers;
 use crate::top::choose;
 use am_index::FilterIndex;
 use am_installed::Installed;
+use am_links::{Narrowed, hits_of, narrow};
 use am_types::{
-    Component, Decl, Device, Filter, Grant, Hit, Intent, Kind, Link, List, NoMemory, Package,
-    Receiving, Registration, Steps, Target, Text, drop_parts,
+    Candidate, Component, Decl, Device, Filter, Grant, Hit, Intent, Kind, Link, List, NoMemory,
+    Package, Receiving, Registration, Rules, Steps, Target, Text, drop_parts,
 };
 use std::alloc::Global;
 use std::marker::Model;
@@ -66,10 +72,79 @@ impl Board {
         }
     }
 
-    /// The components of the kind that the intent finds, by falling priority, then uid, then place;
-    /// with `default_only` an implicit intent finds those with a filter that lists the default
-    /// category. Each full test of a filter is a step: at most as many as the intent's group has
-    /// filters, and none if the intent names a component. ("Intents and intent filters".)
+    /// By whose rules the device answers. Takes no memory.
+    pub fn rules(&self) -> Rules
+        ensures { result ≡ self.now.rules }
+    {
+        self.installed.rules()
+    }
+
+    /// What the intent finds of a kind, in order.
+    fn found<L: Ledger>(
+        &self,
+        alloc: Global,
+        kind: Kind,
+        intent: &Intent,
+        need_default: bool,
+        steps: &mut Steps<L>,
+    ) -> Result<List<Candidate>, NoMemory>
+        ensures found { IfOk result
+            (λ found. found ≡ found_by self.now.rules self.now.packages kind intent.now need_default) }
+        ensures tests { steps.new ≤ steps.old + group_size self.now.packages kind intent.now }
+        ensures explicit { IsSome intent.now.component → steps.new ≡ steps.old }
+    {
+        let rules = self.installed.rules();
+        let packages = self.installed.packages();
+        self.index
+            .candidates(alloc, rules, packages, kind, intent, need_default, steps)
+    }
+
+    /// The components of the kind that the intent finds, in order: by falling priority first, and at last by uid and
+    /// place. With `need_default` an implicit intent finds those with a filter that lists the default category. Each
+    /// full test of a filter is a step: at most as many as the intent's group has filters, and none if the intent names
+    /// a component. ("Intents and intent filters".)
+    pub fn hits<L: Ledger>(
+        &self,
+        alloc: Global,
+        kind: Kind,
+        intent: &Intent,
+        need_default: bool,
+        steps: &mut Steps<L>,
+    ) -> Result<List<Hit>, NoMemory>
+        ensures hits { IfOk result
+            (λ found. found ≡ hits self.now.rules self.now.packages kind intent.now need_default) }
+        ensures tests { steps.new ≤ steps.old + group_size self.now.packages kind intent.now }
+        ensures explicit { IsSome intent.now.component → steps.new ≡ steps.old }
+    {
+        let found = self.found(alloc, kind, intent, need_default, steps)?;
+        hits_of(alloc, found)
+    }
+
+    /// What a phone's narrowing leaves of the activities that the intent finds. Tests of filters are counted as those of
+    /// [`Board::hits`].
+    pub fn narrowed<L: Ledger>(
+        &self,
+        alloc: Global,
+        intent: &Intent,
+        default_only: bool,
+        steps: &mut Steps<L>,
+    ) -> Result<Narrowed, NoMemory>
+        ensures leading { IfOk result (λ narrowed. option_map led_by narrowed.leading
+            ≡ leading_of self.now intent.now default_only
+            (found_by self.now.rules self.now.packages Activity intent.now default_only)) }
+        ensures left { IfOk result (λ narrowed. narrowed.left
+            ≡ hits_of (phone_narrowed self.now intent.now default_only
+            (found_by self.now.rules self.now.packages Activity intent.now default_only))) }
+        ensures tests { steps.new ≤ steps.old + group_size self.now.packages Activity intent.now }
+        ensures explicit { IsSome intent.now.component → steps.new ≡ steps.old }
+    {
+        let found = self.found(alloc, Kind::Activity, intent, default_only, steps)?;
+        narrow(alloc, &self.installed, intent, default_only, found)
+    }
+
+    /// What a query for a kind shows: the components that the intent finds, as [`Board::hits`] gives them; under a
+    /// phone's rules activities are narrowed. With `default_only` an implicit intent finds those with a filter that
+    /// lists the default category.
     pub fn query<L: Ledger>(
         &self,
         alloc: Global,
@@ -78,30 +153,75 @@ impl Board {
         default_only: bool,
         steps: &mut Steps<L>,
     ) -> Result<List<Hit>, NoMemory>
-        ensures hits { IfOk result (λ found. found ≡ hits self.now.packages kind intent.now default_only) }
+        ensures hits { IfOk result (λ found. found ≡ query_hits self.now kind intent.now default_only) }
         ensures tests { steps.new ≤ steps.old + group_size self.now.packages kind intent.now }
         ensures explicit { IsSome intent.now.component → steps.new ≡ steps.old }
     {
-        let packages = self.installed.packages();
-        self.index
-            .candidates(alloc, packages, kind, intent, default_only, steps)
+        match self.installed.rules() {
+            Rules::Profile => self.hits(alloc, kind, intent, default_only, steps),
+            Rules::Android12 => self.phone_query(alloc, kind, intent, default_only, steps),
+        }
     }
 
-    /// Which activity a start of the intent reaches: none, the one of greatest priority, or several
-    /// that share it. A start of a web intent is narrowed first. Each full test of a filter is a step: at most
-    /// twice as many as the intent's group has filters, and none if the intent names a
-    /// component. ("Intents and intent filters"; narrowing is (own) in detail.)
+    /// What a query for a kind shows on a phone.
+    fn phone_query<L: Ledger>(
+        &self,
+        alloc: Global,
+        kind: Kind,
+        intent: &Intent,
+        default_only: bool,
+        steps: &mut Steps<L>,
+    ) -> Result<List<Hit>, NoMemory>
+        requires { self.now.rules ≡ Android12 }
+        ensures hits { IfOk result (λ found. found ≡ phone_shown self.now kind intent.now default_only) }
+        ensures tests { steps.new ≤ steps.old + group_size self.now.packages kind intent.now }
+        ensures explicit { IsSome intent.now.component → steps.new ≡ steps.old }
+    {
+        match kind {
+            Kind::Activity => Ok(self.narrowed(alloc, intent, default_only, steps)?.into_left()),
+            Kind::Service | Kind::Receiver => self.hits(alloc, kind, intent, default_only, steps),
+        }
+    }
+
+    /// Which activity a start of the intent by the caller reaches: none, the one of greatest priority, or several from
+    /// which the user must choose. A start of a web intent is narrowed first. Each full test of a filter is a step: at
+    /// most twice as many as the intent's group has filters, on a phone at most as many, and none if the intent names
+    /// a component. ("Intents and intent filters"; narrowing is (own) in detail.)
     pub fn target<L: Ledger>(
+        &self,
+        alloc: Global,
+        caller: u32,
+        intent: &Intent,
+        steps: &mut Steps<L>,
+    ) -> Result<Target, NoMemory>
+        ensures target { IfOk result (λ reached. reached ≡ target self.now caller intent.now) }
+        ensures tests { steps.new ≤ steps.old + 2 * group_size self.now.packages Activity intent.now }
+        ensures phone { self.now.rules ≡ Android12 →
+            steps.new ≤ steps.old + group_size self.now.packages Activity intent.now }
+        ensures explicit { IsSome intent.now.component → steps.new ≡ steps.old }
+    {
+        match self.installed.rules() {
+            Rules::Profile => self.profile_target(alloc, intent, steps),
+            Rules::Android12 => {
+                let left = self.narrowed(alloc, intent, true, steps)?.into_left();
+                Ok(phone_choice(&self.installed, caller, left))
+            }
+        }
+    }
+
+    /// Which activity a start of the intent reaches under the profile.
+    fn profile_target<L: Ledger>(
         &self,
         alloc: Global,
         intent: &Intent,
         steps: &mut Steps<L>,
     ) -> Result<Target, NoMemory>
-        ensures target { IfOk result (λ reached. reached ≡ target self.now intent.now) }
+        requires { self.now.rules ≡ Profile }
+        ensures target { IfOk result (λ reached. reached ≡ choice (top (left_by Profile self.now intent.now))) }
         ensures tests { steps.new ≤ steps.old + 2 * group_size self.now.packages Activity intent.now }
         ensures explicit { IsSome intent.now.component → steps.new ≡ steps.old }
     {
-        let found = self.query(alloc, Kind::Activity, intent, true, steps)?;
+        let found = self.hits(alloc, Kind::Activity, intent, true, steps)?;
         let left = match host_to_view(intent) {
             None => found,
             Some(host) => web_hits(alloc, &self.installed, intent, found, host, steps)?,
@@ -127,7 +247,7 @@ impl Board {
             ≤ steps.old + group_size self.now.packages Receiver intent.now + length self.now.registered }
         ensures explicit { IsSome intent.now.component → steps.new ≡ steps.old }
     {
-        let found = self.query(alloc, Kind::Receiver, intent, false, steps)?;
+        let found = self.hits(alloc, Kind::Receiver, intent, false, steps)?;
         let sent = Broadcast {
             installed: &self.installed,
             intent,

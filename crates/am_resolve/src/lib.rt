@@ -2,6 +2,7 @@
 #![tactic(auto)]
 
 mod board;
+mod choice;
 mod names;
 mod narrow;
 mod offers;
@@ -11,7 +12,9 @@ mod skips;
 mod top;
 
 pub use board::Board;
+pub use choice::phone_choice;
 pub use names::is_for;
 pub use narrow::{approves, host_to_view};
 pub use offers::{Offer, registered_offer};
 pub use skips::skip_of;
+pub use top::is_tied;

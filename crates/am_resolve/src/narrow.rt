@@ -1,79 +1,25 @@
-//! A start of a web intent is narrowed to the packages that are approved for the host; if there are none, to a
+//! Under the profile a start of a web intent is narrowed to the packages that are approved for the host; if there are none, to a
 //! browser; if there is none either, to what takes any host.
 ghost use Rattle.std.specs.Prelude.{◌≡◌, ◌+◌, ◌≤◌, true, if◌then◌else◌, IfOk, count_by, filter, option_copied};
-ghost use Rattle.std.specs.List.{list_all, list_any};
+ghost use Rattle.std.specs.List.{list_any};
 ghost use Rattle.std.specs.List.Sorted.{IsStrictlyIncreasing};
+ghost use Rattle.am_types.specs.declared.device.Rules.TheVariants.{Profile};
 ghost use Rattle.am_types.specs.declared.manifest.Kind.TheVariants.{Activity};
 ghost use Rattle.am_types.specs.declared.resolve.Hit.{Hit};
 ghost use Rattle.am_model.specs.Boards.{package_at};
 ghost use Rattle.am_model.specs.Candidates.{hits};
 ghost use Rattle.am_model.specs.Sound.{uids_of};
-ghost use Rattle.am_model.specs.Targets.{approves, host_to_view, is_approved, is_general, is_view, is_web_category, is_web_scheme, named_host, takes_any_host, web_hits, web_host};
+ghost use Rattle.am_model.specs.Targets.{approves, host_to_view, is_approved, is_general, takes_any_host, web_hits};
 ghost use Rattle.am_model.specs.Texts.{is_same, lowered};
 ghost use Rattle.am_index.specs.Groups.{group_size, in_group};
 ghost use Rattle.am_resolve.specs.Narrowing.{cost_at, cost_in, cost_of, is_general_in};
 
-use am_index::is_passed;
+use am_index::is_found;
 use am_installed::{Installed, package_at};
-use am_types::{Decl, Filter, Hit, Intent, Link, List, NoMemory, Package, Steps, Text, Uri};
+use am_links::{are_web_categories, is_view, web_host};
+use am_types::{Decl, Filter, Hit, Intent, Link, List, NoMemory, Package, Rules, Steps, Text};
 use std::alloc::Global;
 use std::sync::ledger::Ledger;
-
-/// The scheme of web pages, with or without encryption.
-fn is_web_scheme(scheme: &Text) -> bool
-    ensures { result ≡ is_web_scheme scheme.now }
-{
-    let scheme = scheme.as_str();
-    scheme == "http" || scheme == "https"
-}
-
-/// The host, unless it is empty.
-fn named_host(host: &Option<Text>) -> Option<&Text>
-    ensures { option_copied result ≡ named_host host.now }
-{
-    match host {
-        Some(host) if !host.as_str().is_empty() => Some(host),
-        _ => None,
-    }
-}
-
-/// The host of a web page, if the URI is the URI of one and has a nonempty host.
-fn web_host(uri: &Option<Uri>) -> Option<&Text>
-    ensures { option_copied result ≡ web_host uri.now }
-{
-    match uri {
-        Some(uri) if is_web_scheme(&uri.scheme) => named_host(&uri.host),
-        _ => None,
-    }
-}
-
-/// The action is the view action.
-fn is_view(action: &Option<Text>) -> bool
-    ensures { result ≡ is_view action.now }
-{
-    match action {
-        Some(action) => action.as_str() == "android.intent.action.VIEW",
-        None => false,
-    }
-}
-
-/// A category that a web intent may have.
-fn is_web_category(category: &Text) -> bool
-    ensures { result ≡ is_web_category category.now }
-{
-    let category = category.as_str();
-    category == "android.intent.category.BROWSABLE" || category == "android.intent.category.DEFAULT"
-}
-
-/// A web intent may have each of the categories.
-fn are_web_categories(categories: &List<Text>) -> bool
-    ensures { result ≡ list_all is_web_category categories.now }
-{
-    categories
-        .as_slice()
-        .iter()
-        .all(|category| is_web_category(category))
-}
 
 /// The host of a web intent, which asks to view a web page, with no other categories and for no
 /// named app. Takes no memory.
@@ -148,7 +94,8 @@ fn takes_any_host<L: Ledger>(filter: &Filter, intent: &Intent, steps: &mut Steps
     ensures takes { result ≡ takes_any_host intent.now filter.now }
     ensures tests { steps.new ≤ steps.old + (if in_group intent.now filter.now then 1 else 0) }
 {
-    filter.authorities.as_slice().is_empty() && is_passed(filter, intent, true, steps)
+    filter.authorities.as_slice().is_empty()
+        && is_found(Rules::Profile, filter, intent, true, steps)
 }
 
 /// The intent passes one of the filters, which lists no authority.
@@ -234,7 +181,7 @@ pub(crate) fn web_hits<L: Ledger>(
     host: &Text,
     steps: &mut Steps<L>,
 ) -> Result<List<Hit>, NoMemory>
-    requires { found ≡ hits installed.now.packages Activity intent.now true }
+    requires { found ≡ hits Profile installed.now.packages Activity intent.now true }
     ensures hits { IfOk result (λ left. left ≡ web_hits installed.now intent.now found host.now) }
     ensures tests { steps.new ≤ steps.old + group_size installed.now.packages Activity intent.now }
 {

@@ -11,7 +11,7 @@ use crate::names::is_for;
 use crate::offers::{Broadcast, Offer, Ranked, registered_offer};
 use crate::order::in_order;
 use crate::skips::skip_of;
-use am_index::is_passed;
+use am_index::is_heard;
 use am_installed::{Installed, decl_in, package_at};
 use am_types::{
     Aim, Decl, Hit, Intent, Kind, List, NoMemory, Package, Receiving, Registration, Steps,
@@ -29,7 +29,7 @@ pub(crate) fn receivers<L: Ledger>(
     found: &List<Hit>,
     steps: &mut Steps<L>,
 ) -> Result<List<Receiving>, NoMemory>
-    requires { found.now ≡ hits sent.now.installed.now.packages Receiver sent.now.intent.now false }
+    requires { found.now ≡ hits sent.now.installed.now.rules sent.now.installed.now.packages Receiver sent.now.intent.now false }
     ensures receivers { IfOk result (λ receivings. receivings
         ≡ receivers sent.now.installed.now sent.now.intent.now sent.now.sender (option_copied sent.now.required)) }
     ensures tests { steps.new ≤ steps.old + length sent.now.installed.now.registered }
@@ -68,13 +68,13 @@ fn finds_registered<L: Ledger>(
     registration: &Registration,
     steps: &mut Steps<L>,
 ) -> bool
-    ensures finds { result ≡ finds_registered installed.now.packages intent.now registration.now }
+    ensures finds { result ≡ finds_registered installed.now.rules installed.now.packages intent.now registration.now }
     ensures tests { steps.new ≤ steps.old + 1 }
     ensures explicit { IsSome intent.now.component → steps.new ≡ steps.old }
 {
     intent.component.is_none()
         && is_for(installed, intent, registration.uid)
-        && is_passed(&registration.filter, intent, false, steps)
+        && is_heard(installed.rules(), &registration.filter, intent, steps)
 }
 
 /// Adds the manifests' receivers that were found, in their order.
@@ -83,7 +83,7 @@ fn add_declared(
     sent: &Broadcast,
     found: &List<Hit>,
 ) -> Result<(), NoMemory>
-    requires { found.now ≡ hits sent.now.installed.now.packages Receiver sent.now.intent.now false }
+    requires { found.now ≡ hits sent.now.installed.now.rules sent.now.installed.now.packages Receiver sent.now.intent.now false }
     ensures { OnOk result (ranked.new.items
         ≡ ranked.old.items ++ map (ranked_of sent.now)
         (declared_offers sent.now.installed.now.packages found.now)) }

@@ -3,6 +3,7 @@ ghost use Rattle.std.specs.Prelude.{◌≡◌, length};
 ghost use Rattle.std.specs.List.{take_while};
 ghost use Rattle.std.specs.Ordering.{int_eq};
 ghost use Rattle.am_types.specs.declared.resolve.Hit.{Hit};
+ghost use Rattle.am_model.specs.Accounts.{is_choice};
 ghost use Rattle.am_model.specs.Targets.{choice, top};
 
 use am_types::{Hit, List, Target};
@@ -27,6 +28,13 @@ fn top_len(hits: &[Hit]) -> usize
         None => 0,
         Some(first) => len_of(hits, first),
     }
+}
+
+/// Whether several of the hits, which are ordered by falling priority, share the greatest priority. Takes no memory.
+pub fn is_tied(found: &List<Hit>) -> bool
+    ensures { result ≡ is_choice (choice (top found.now)) }
+{
+    top_len(found.as_slice()) > 1
 }
 
 /// Those of the hits, which are ordered by falling priority, that share the greatest priority.

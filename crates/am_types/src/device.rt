@@ -41,9 +41,19 @@ pub enum RightKind {
     Host,
 }
 
+/// By whose rules a device answers.
+#[derive(Clone, Copy, Debug, PartialEq, Eq)]
+pub enum Rules {
+    /// Those of the written profile.
+    Profile,
+    /// Those of a phone with Android 12.
+    Android12,
+}
+
 /// A device as its file describes it.
 #[derive(Drop)]
 pub struct Device {
+    pub rules: Rules,
     /// The key of uid 1000.
     pub system_key: Text,
     /// The key of uid 0.

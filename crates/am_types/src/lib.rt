@@ -30,7 +30,7 @@ pub use account::{Account, Narrowing, Standing};
 pub use broadcast::{
     Aim, Answer, FinishFault, Item, ItemKind, Ordered, Outcome, Receiving, SendFault, Sending, Spot,
 };
-pub use device::{Device, Grant, Link, Package, RightKind};
+pub use device::{Device, Grant, Link, Package, RightKind, Rules};
 pub use failure::{NoMemory, Unmade};
 pub use filter::{Authority, FillFault, Filter, PathRule, Why};
 pub use glob::Glob;
@@ -41,7 +41,7 @@ pub use manifest::{Decl, Kind, Manifest, ManifestFault, Mode};
 pub use pending::{PendingFault, PendingFlags, Used};
 pub use reply::Reply;
 pub use request::Request;
-pub use resolve::{Hit, Registration, Target};
+pub use resolve::{Candidate, Finding, Hit, Registration, Target};
 pub use rule::{Limit, Rule};
 pub use steps::Steps;
 pub use task::{

@@ -10,6 +10,28 @@ pub struct Hit {
     pub priority: i32,
 }
 
+/// How an intent finds a component. All but the priority is asked by a phone's rules alone, of the filter that counts.
+#[derive(Clone, Copy)]
+pub struct Finding {
+    /// The priority with which the component counts.
+    pub priority: i32,
+    /// Whether the filter lists the default category.
+    pub lists_default: bool,
+    /// What the intent's data reach in the filter, from 1 for no data to 6 for a type.
+    pub reaches: u8,
+    /// Where the filter is found, from 0 to 3; what is found at 0 comes first.
+    pub cut: u8,
+    /// Whether the filter is a browser's.
+    pub browses: bool,
+}
+
+/// A component that an intent finds, and how.
+#[derive(Drop)]
+pub struct Candidate {
+    pub hit: Hit,
+    pub finding: Finding,
+}
+
 /// Which component a start of an activity reaches.
 #[derive(Drop)]
 pub enum Target {

@@ -2,10 +2,12 @@ pub mod Cuts
 pub mod Ends
 pub mod Order
 pub mod PathBits
+pub mod PathPieces
 pub mod PathPlain
 pub mod PathReading
 pub mod PathRows
 pub mod PathSteps
+pub mod PathUnits
 pub mod PathWords
 pub mod Ports
 pub mod Wholes

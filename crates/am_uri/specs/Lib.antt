@@ -2,6 +2,7 @@ pub mod Answers
 pub mod Lent
 pub mod Parts
 pub mod PathElements
+pub mod PathPieces
 pub mod PathPlaces
 pub mod PathRows
 pub mod PathWords

@@ -6,10 +6,12 @@ mod matching;
 mod mime;
 mod path;
 mod pattern;
+mod pieces;
 mod places;
 mod rows;
 mod scheme;
 mod text;
+mod units;
 mod uri;
 
 pub use am_types::{MimeFault, UriFault};

@@ -7,7 +7,7 @@ use Rattle.std.specs.Option.{option_to_list}
 use Rattle.std.proofs.lemmas.List.Elements.{All-nil, All-cons, All-append}
 use Rattle.am_types.specs.declared.history.Entry.{Entry}
 use Rattle.am_history.specs.State.{State}
-use Rattle.am_history.specs.Steps.{is_formed}
+use Rattle.am_history.specs.Steps.{has_formed_row}
 use Rattle.am_workers.specs.Serving.{IsFormed}
 use Rattle.am_http.specs.Exchanges.{Exchange, Point, HasEntry, IsAnswer, IsCalled, entry_at, stored_entries}
 use Rattle.am_http.proofs.FormedLemmas.{a_read_request_is_formed}
@@ -33,7 +33,7 @@ of_call : (start : State) (desk : ℕ) (history : List Entry) (e : Exchange) →
 of_call start desk history e c =
     subst (λ (p : Option Point). All IsFormed (entry_at history p)) (sym c.placed)
     (stands c.point.stored history c.point.at _
-    (λ entry is. subst (λ request. IsTrue (is_formed request)) (sym is.request)
+    (λ entry is. subst (λ request. IsTrue (has_formed_row request)) (sym is.request)
     (a_read_request_is_formed e.frame c.request c.asks))
     c.marked.entry)
 

@@ -7,7 +7,7 @@ use Rattle.am_network.specs.declared.network.Network.{Ghosts as NetworkGhosts}
 use Rattle.am_network.specs.Links.{GateView, IsNewGate, Links, Listening, raised_by, released}
 use Rattle.am_history.specs.Desks.{Origin, opening_of}
 use Rattle.am_history.specs.History.{IsLegal}
-use Rattle.am_history.specs.Steps.{is_formed}
+use Rattle.am_history.specs.Steps.{has_formed_row}
 use Rattle.am_baton.specs.Shared.{IsNumbered}
 use Rattle.am_http.specs.Links.{Gives, Moments}
 use Rattle.am_workers.specs.declared.working.Worked.{Worked}
@@ -103,9 +103,9 @@ AreServed most begun ended number (work ∷ others) =
 abbrev pub gates_of : List Gatework → List GateView
 gates_of works = map (λ (work : Gatework). work.gate) works
 
--- the entry's request is formed
+-- the row that the entry's request has kept, if any, has a row's form
 abbrev pub IsFormed : Entry → Type 0
-IsFormed entry = IsTrue (is_formed entry.request)
+IsFormed entry = IsTrue (has_formed_row entry.request)
 
 -- the manager was served by that many workers over as many gates of the network: its history goes on from the one that
 -- it had, and could have been made from its opening state; each entry behind carries a worker's number and is formed;

@@ -1,6 +1,9 @@
+use Rattle.std.proofs.Common.{subst}
 use Rattle.sqlite.specs.Held.{state}
 use Rattle.sqlite.specs.Values.{bound}
-use Rattle.am_keeper_sql.proofs.Texts.{upsert_text}
+use Rattle.sqlite.specs.State.{Executes}
+use Rattle.am_keeper_sql.specs.Table.{upsert_text}
+use Rattle.am_keeper_sql.proofs.Failures.{each_error, lasts_of}
 use Rattle.am_keeper_sql.proofs.Puts.{upserted}
 use Rattle.am_keeper_sql.proofs.Seen.{was_honest, executes_open, refused}
 use Rattle.am_keeper_sql.proofs.table.upsert.Goals as goal
@@ -21,3 +24,14 @@ pub returns-clause-refused : goal.returns-clause-refused
 returns-clause-refused g c honest was =
     refused (state g.S.Store c.args.conn.now) (state g.S.Store c.execute.new.self) upsert_text (bound c.args.values.now)
     c.execute.result (c.execute.ensures.runs honest.clean) was honest.live
+
+pub returns-clause-lasts : goal.returns-clause-lasts
+returns-clause-lasts g c = lasts_of (state g.S.Store c.args.conn.now) (state g.S.Store c.execute.new.self) _
+    c.execute.ensures.survives
+
+pub returns-clause-failed : goal.returns-clause-failed
+returns-clause-failed g c clean =
+    let old = state g.S.Store c.args.conn.now in
+    let new = state g.S.Store c.execute.new.self in
+    each_error c.execute.result (λ e is. subst (Executes upsert_text (bound c.args.values.now) old new) is
+    (c.execute.ensures.runs clean))

@@ -26,4 +26,4 @@ returns c =
     ∙ ap (λ l. before ++ l)
     (of_hits sent c.args.found.now
     (subst (AllByRecursion (IsFoundByUid board.packages)) (sym c.requires)
-    (hits_found_by_uid board.packages sent.intent.now c.packages-packages.ensures.installed)))
+    (hits_found_by_uid board.rules board.packages sent.intent.now c.packages-packages.ensures.installed)))
