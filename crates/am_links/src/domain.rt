@@ -1,5 +1,5 @@
 //! Whether a host is a domain.
-ghost use Rattle.std.specs.Prelude.{◌≡◌, not, ◌&&◌, nat_le, codes, length};
+ghost use Rattle.std.specs.Prelude.{◌≡◌, not, ◌&&◌, nat_le, chars, codes, length};
 ghost use Rattle.std.specs.Char.{is_ascii_digit};
 ghost use Rattle.std.specs.List.{list_all};
 ghost use Rattle.am_model.specs.Filters.{is_empty};
@@ -55,11 +55,18 @@ fn is_rewritten(part: &str) -> bool
     part.starts_with("xn--")
 }
 
+/// Two characters or more.
+fn has_two_characters(part: &str) -> bool
+    ensures { result ≡ nat_le 2 (length (chars part.now)) }
+{
+    part.chars().count() >= 2
+}
+
 /// The last part of a domain's name: two letters or more, or one that is written in ASCII for letters of another script.
 fn is_top_part(part: &str) -> bool
     ensures { result ≡ is_top_part part.now }
 {
-    part.len() >= 2 && has_letters_alone(part) || is_rewritten(part)
+    has_two_characters(part) && has_letters_alone(part) || is_rewritten(part)
 }
 
 /// The parts between the dots are those of a domain's name.

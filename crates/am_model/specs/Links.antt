@@ -1,5 +1,5 @@
 -- How a phone narrows a web intent, and which of several activities opens.
-use Rattle.std.specs.Prelude.{ℕ, ℤ, pos, int_lt, ◌-◌, Bool, true, false, not, ◌&&◌, ◌||◌, ◌==◌, nat_le, nat_lt, codes, List, [], ◌∷◌, length, map, drop, filter, if◌then◌else◌, Option, Some, None, is_none, is_some}
+use Rattle.std.specs.Prelude.{ℕ, ℤ, pos, int_lt, ◌-◌, Bool, true, false, not, ◌&&◌, ◌||◌, ◌==◌, nat_le, nat_lt, codes, chars, List, [], ◌∷◌, length, map, drop, filter, if◌then◌else◌, Option, Some, None, is_none, is_some}
 use Rattle.std.specs.Char.{is_ascii_alphabetic, is_ascii_alphanumeric, is_ascii_digit}
 use Rattle.std.specs.Int.{int_max}
 use Rattle.std.specs.Int.Digits.{number_from_digits}
@@ -58,7 +58,7 @@ is_domain_part part = not (is_empty part) && list_all is_domain_byte part
 
 -- the last part of a domain's name: two letters or more, or one that is written in ASCII for letters of another script
 abbrev pub is_top_part : List ℕ → Bool
-is_top_part part = (nat_le 2 (length part) && list_all is_letter part) || begins_with part (codes "xn--")
+is_top_part part = (nat_le 2 (length (chars part)) && list_all is_letter part) || begins_with part (codes "xn--")
 
 -- the parts of a domain's name, the last of which is there
 abbrev pub are_domain_parts : List (List ℕ) → Bool
