@@ -116,12 +116,5 @@ pub(crate) fn found_activity(
     if let Some(narrowing) = left_out(&leaders.leading, owner, decl, finding)? {
         return Ok(Standing::Narrowed(narrowing));
     }
-    contest(
-        installed,
-        question,
-        leaders,
-        owner,
-        decl,
-        finding.priority,
-    )
+    contest(installed, question, leaders, owner, decl, finding.priority)
 }

@@ -16,9 +16,7 @@ use crate::tested::{Tested, ask_filters, test_registered};
 use am_index::Search;
 use am_installed::Installed;
 use am_resolve::{is_for, registered_offer};
-use am_types::{
-    Decl, Finding, Kind, List, NoMemory, Package, Registration, Standing, Steps, Why,
-};
+use am_types::{Decl, Finding, Kind, List, NoMemory, Package, Registration, Standing, Steps, Why};
 use std::alloc::Global;
 use std::sync::ledger::Ledger;
 
@@ -164,7 +162,12 @@ pub(crate) fn registered_standing<L: Ledger>(
     if !is_for(installed, question.intent, registration.uid) {
         return Ok(Standing::OtherPackage);
     }
-    match test_registered(installed.rules(), &registration.filter, question.intent, steps) {
+    match test_registered(
+        installed.rules(),
+        &registration.filter,
+        question.intent,
+        steps,
+    ) {
         Some(reason) => failed(grounds.alloc, reason),
         None => offered(installed, question, &registered_offer(registration)),
     }

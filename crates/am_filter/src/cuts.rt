@@ -120,10 +120,7 @@ fn lists_type(types: &List<Mime>, mime: &Mime) -> bool
 fn lists_same(types: &List<Mime>, mime: &Mime) -> bool
     ensures { result ≡ list_any (λ (m : Mime). is_same m.main mime.now.main && is_same m.sub mime.now.sub) types.now }
 {
-    types
-        .as_slice()
-        .iter()
-        .any(|listed| listed.main == mime.main && listed.sub == mime.sub)
+    types.as_slice().iter().any(|listed| listed.main == mime.main && listed.sub == mime.sub)
 }
 
 /// Some listed type has the main part, and doesn't stand for all of it.

@@ -10,8 +10,8 @@ ghost use Rattle.am_installed.specs.Places.{AreByNumber, place_registered};
 use crate::lists::take;
 use crate::{find, lists, rights};
 use am_types::{
-    Component, Decl, Device, Grant, Kind, Link, List, NoMemory, Package, Registration, Rules,
-    Text, drop_parts,
+    Component, Decl, Device, Grant, Kind, Link, List, NoMemory, Package, Registration, Rules, Text,
+    drop_parts,
 };
 use std::alloc::Global;
 use std::marker::Model;

@@ -32,8 +32,11 @@ octet_read {E} (digit ∷ digits) r h short = by r (parse_digits own 8 (digit �
 
     over : (b : Bool) → nat_le (read_on 0 part) 255 ≡ b → ((0 < length part) × (read_on 0 part < 2 ^ 8) → ⊥)
         → false ≡ nat_le (read_on 0 part) 255
-    over true e none = absurd (none (omega arith, (let low : read_on 0 part ≤ 255 = leb-true (read_on 0 part) 255 e in
-        omega (arith, low))))
+    over true e none = absurd (none (
+      omega arith,
+      (let low : read_on 0 part ≤ 255 = leb-true (read_on 0 part) 255 e in
+          omega (arith, low)),
+    ))
     over false e none = sym e
 
     by : (r : Result ℕ E) → OkIff r ((0 < length part) × (read_on 0 part < 2 ^ 8)) (read_on 0 part)

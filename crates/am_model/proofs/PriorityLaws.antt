@@ -180,8 +180,14 @@ module _ {X : Type 0} (priority : X → ℤ) (before : X → X → Bool)
       by : (b : Bool) → before y x ≡ b → IsFalling priority (placed before x ys)
           → IsFalling priority (cond b (y ∷ placed before x ys) (x ∷ y ∷ ys))
       by true is rest = (not_above_placed (priority y) x ys (ahead y x is) falls.0, rest)
-      by false is rest = ((behind y x is, not_above_greater priority (priority x) (priority y) ys (behind y x is)
-          falls.0), falls)
+      by false is rest = (
+        (
+          behind y x is,
+          not_above_greater priority (priority x) (priority y) ys (behind y x is)
+              falls.0,
+        ),
+        falls,
+      )
 
   -- an order that asks the priority first falls
   ordered_fall : (xs : List X) → IsFalling priority (ordered before xs)

@@ -178,7 +178,10 @@ impl Board {
         ensures explicit { IsSome intent.now.component → steps.new ≡ steps.old }
     {
         match kind {
-            Kind::Activity => Ok(self.narrowed(alloc, intent, default_only, steps)?.into_left()),
+            Kind::Activity => Ok(
+                self.narrowed(alloc, intent, default_only, steps)?
+                    .into_left(),
+            ),
             Kind::Service | Kind::Receiver => self.hits(alloc, kind, intent, default_only, steps),
         }
     }

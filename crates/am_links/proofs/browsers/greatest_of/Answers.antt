@@ -13,7 +13,7 @@ loop-candidate-init c = (at_least_none (browsers_of c.as_slice-candidate-items.r
 pub loop-candidate-preserved : goal.loop-candidate-preserved
 loop-candidate-preserved c =
     let next = joined_at _ c.as_slice-candidate-items.result.now c.loop-candidate.candidate-index
-        c.candidate-item.result _ c.with_browser-most.ensures c.loop-candidate-test.true c.candidate-item.is
-        c.loop-candidate.invariant.0 in
+    c.candidate-item.result _ c.with_browser-most.ensures c.loop-candidate-test.true c.candidate-item.is
+    c.loop-candidate.invariant.0 in
     let kept = stays _ c.candidate-item.result _ c.with_browser-most.ensures c.loop-candidate.invariant.1 in
     (grind (arith, to_z-of_z), grind (arith, to_z-of_z))

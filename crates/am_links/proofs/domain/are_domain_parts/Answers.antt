@@ -26,10 +26,11 @@ returns-then-not-is_domain_part c =
 
 pub loop-part-preserved : goal.loop-part-preserved
 loop-part-preserved c =
-    let is : is_domain_part c.in-Some.part.now ≡ true = sym c.if-not-is_domain_part.ensures in
-    (search rules,
-    sym (ap (λ b. b && are_domain_parts (parts_of c.in-Some.others.now)) is)
-    ∙ sym (parts (goal.at.loop-part-preserved c).In-Some) ∙ c.loop-part.invariant.1)
+    let is : is_domain_part c.in-Some.part.now ≡ true = sym c.if-not-is_domain_part.ensures in (
+      search rules,
+      sym (ap (λ b. b && are_domain_parts (parts_of c.in-Some.others.now)) is)
+          ∙ sym (parts (goal.at.loop-part-preserved c).In-Some) ∙ c.loop-part.invariant.1,
+    )
 
 pub returns-then-is_domain_part : goal.returns-then-is_domain_part
 returns-then-is_domain_part c =
