@@ -27,9 +27,9 @@ use am_laws_courses::{courses_are_kept, deliveries_go_in_turn};
 use am_laws_state::states_are_sound;
 
 impl<K: Keeper> Manager<K> {
-    /// What is installed is sound, every number that is given out next is at most one more than the number of the
-    /// history's entries, and the last moment is at most 2^62 milliseconds, and no earlier after the next entry. Takes
-    /// no memory.
+    /// What is installed is sound. The next numbers of tasks, instances, broadcasts, tokens and registrations are at most
+    /// one more than the number of the history's entries. The last moment is at most 2^62 milliseconds, and no earlier
+    /// after the next entry. Takes no memory.
     pub fn stays_sound(&self)
         ensures sound { IsSoundState (state_after self.now.origin self.now.history) }
         ensures numbers { HasNumbersTo (1 + length self.now.history) (state_after self.now.origin self.now.history) }
@@ -69,8 +69,9 @@ impl<K: Keeper> Manager<K> {
 
     /// Whatever the next entry adds is a deed of that entry itself, which was admitted in the state at its moment: a
     /// delivery of a normal broadcast, to which it gave its number; an activity instance, or a new intent of one; one
-    /// more start of a service; a registered receiver; a token, or other extras of one; a package. If its answer is that a start landed, that start was its own, also if the instance
-    /// had that intent already. What is due at its moment adds nothing. Takes no memory.
+    /// more start of a service; a registered receiver; a token, or other extras of one; a package. If its answer is that
+    /// a start landed, that start was its own, also if the instance had that intent already. What is due at its moment
+    /// adds nothing. Takes no memory.
     pub fn adds_by_deeds(&self)
         ensures adds { (next : Entry) → Adds (state_after self.now.origin self.now.history) next
             (answer_after self.now.origin self.now.history next) }
