@@ -17,7 +17,8 @@ returns-then-not-is_plain_dot-clause-piece c =
     c.next.ensures.unit in
     ap pieces_of c.in_ok-mark.ensures.mark
     ∙ ap (λ l. pieces_of (unit_mark c.in_ok-mark.mark ∷ phone_marks_of l)) star
-    ∙ piece_run (unit_mark c.in_ok-mark.mark) _ (sym c.is_plain_dot.ensures ∙ c.if-not-is_plain_dot.true)
+    ∙ piece_run (unit_mark c.in_ok-mark.mark) (units_of c.next.new.self)
+    (sym c.is_plain_dot.ensures ∙ c.if-not-is_plain_dot.true)
 
 pub returns-in-Some-clause-piece : goal.returns-in-Some-clause-piece
 returns-in-Some-clause-piece c =
@@ -25,7 +26,8 @@ returns-in-Some-clause-piece c =
     c.next.ensures.unit in
     ap pieces_of c.in_ok-mark.ensures.mark
     ∙ ap (λ l. pieces_of (unit_mark c.in_ok-mark.mark ∷ phone_marks_of l)) star
-    ∙ piece_up_to (unit_mark c.in_ok-mark.mark) (unit_mark c.in-Some.after) _ _
+    ∙ piece_up_to (unit_mark c.in_ok-mark.mark) (unit_mark c.in-Some.after) (units_of c.next.new.self)
+    (phone_marks_of (units_of c.next_mark-2.new.pattern))
     (sym c.is_plain_dot.ensures ∙ c.if-not-is_plain_dot.false) c.in-Some.ensures.mark
 
 pub returns-in-None-clause-piece : goal.returns-in-None-clause-piece
@@ -34,6 +36,6 @@ returns-in-None-clause-piece c =
     c.next.ensures.unit in
     ap pieces_of c.in_ok-mark.ensures.mark
     ∙ ap (λ l. pieces_of (unit_mark c.in_ok-mark.mark ∷ phone_marks_of l)) star
-    ∙ piece_rest (unit_mark c.in_ok-mark.mark) _
+    ∙ piece_rest (unit_mark c.in_ok-mark.mark) (units_of c.next.new.self)
     (sym c.is_plain_dot.ensures ∙ c.if-not-is_plain_dot.false) c.in-None.ensures.mark.0
     ∙ ap (λ m. Rest ∷ pieces_of m) (sym c.in-None.ensures.mark.1)
