@@ -1,8 +1,11 @@
 -- The last of some hits, gathered from the front.
-use Rattle.std.proofs.Common.{◌≡◌, ℕ, Bool, true, false, ◌&&◌, ◌||◌, cond, eqb, ltb, Option, Some, None, refl, ap, arith}
+use Rattle.std.proofs.Common.{◌≡◌, ℕ, ◌+◌, ◌<◌, Bool, true, false, ◌&&◌, ◌||◌, cond, eqb, ltb, List, ◌∷◌, drop, get_or, length, Option, Some, None, refl, sym, ap, ◌∙◌, arith}
+use Rattle.std.specs.List.{filter}
 use Rattle.std.proofs.lemmas.Grind.{common_steps}
+use Rattle.std.proofs.lemmas.List.{at_drop_more}
+use Rattle.am_types.specs.declared.resolve.Candidate.{Candidate}
 use Rattle.am_types.specs.declared.resolve.Hit.{Hit}
-use Rattle.am_model.specs.Links.{is_later, later_of}
+use Rattle.am_model.specs.Links.{is_later, last_of, later_of}
 use Rattle.am_links.specs.Gathered.{later_after}
 
 -- the last so far, and the last of the rest, if there is one
@@ -38,3 +41,30 @@ joined_later (Some last) hit (Some rest) = ap Some (by (is_later hit last) (is_l
         let g : is_later rest last ≡ false =
         after_neither rest.uid rest.place hit.uid hit.place last.uid last.place f e in
         rw (g, e) refl
+
+-- one step along the candidates
+module _ (takes : Candidate → Bool) (found : List Candidate) (at : ℕ) (c : Candidate) (bound : at < length found)
+    (is : c ≡ get_or found at c) where
+  -- the last of those that are taken and come later
+  abbrev rest : Option Hit
+  rest = last_of (filter takes (drop (at + 1) found))
+
+  last_here : (b : Bool) → takes c ≡ b → last_of (filter takes (drop at found))
+      ≡ last_of (cond b (c ∷ filter takes (drop (at + 1) found)) (filter takes (drop (at + 1) found)))
+  last_here b e =
+      at_drop_more (λ (l : List Candidate). last_of (filter takes l)) found at c bound
+      ∙ ap (λ (x : Candidate). last_of (filter takes (x ∷ drop (at + 1) found))) (sym is)
+      ∙ ap (λ b. last_of (cond b (c ∷ filter takes (drop (at + 1) found)) (filter takes (drop (at + 1) found)))) e
+
+  -- a candidate that is taken joins the last so far
+  pub taken : (last : Option Hit) (next : Hit) → takes c ≡ true → next ≡ later_after last c.hit
+      → joined_last (Some next) rest ≡ joined_last last (last_of (filter takes (drop at found)))
+  taken last next t e =
+      ap (λ (n : Hit). joined_last (Some n) rest) e
+      ∙ joined_later last c.hit rest
+      ∙ sym (ap (joined_last last) (last_here true t))
+
+  -- another leaves it
+  pub passed : (last : Option Hit) → takes c ≡ false
+      → joined_last last rest ≡ joined_last last (last_of (filter takes (drop at found)))
+  passed last f = sym (ap (joined_last last) (last_here false f))

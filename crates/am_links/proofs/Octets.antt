@@ -1,5 +1,5 @@
 -- A short text of digits is a number below 256 if it is read as a byte.
-use Rattle.std.proofs.Common.{◌≡◌, ℕ, ◌-◌, ◌+◌, ◌<◌, ◌≤◌, ◌^◌, Bool, true, false, List, [], ◌∷◌, length, map, Result, Ok, Err, nat_le, not, ◌&&◌, refl, sym, ap, ◌∙◌, arith, rules}
+use Rattle.std.proofs.Common.{◌≡◌, ℕ, ◌-◌, ◌<◌, ◌≤◌, ◌^◌, Bool, true, false, List, [], ◌∷◌, length, map, Result, Ok, Err, nat_le, not, ◌&&◌, refl, sym, arith, rules}
 use Rattle.std.specs.List.{list_all}
 use Rattle.std.specs.Result.{is_ok, OkIff}
 use Rattle.std.specs.Char.{is_ascii_digit}
@@ -8,7 +8,6 @@ use Rattle.std.specs.Str.Parse.{ParsesUnsigned}
 use Rattle.std.proofs.lemmas.Bool.{and_parts, false≢true, leb-true, le-leb}
 use Rattle.std.proofs.lemmas.Str.Parse.{IsNumeralModel, numerals_by_fold, parse_digits}
 use Rattle.am_model.specs.Filters.{is_empty}
-use Rattle.am_model.specs.Links.{is_octet}
 
 -- the number that the digits write after this one
 abbrev read_on : ℕ → List ℕ → ℕ

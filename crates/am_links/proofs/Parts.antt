@@ -1,10 +1,10 @@
 -- The parts of a host between its dots, cut from the front.
 use Rattle.std.proofs.Common.{◌≡◌, ℕ, suc, not, ◌+◌, ◌<◌, Bool, true, false, ◌&&◌, cond, eqb, List, [], ◌∷◌, length, refl, sym, ap, ◌∙◌, arith, count_by}
-use Rattle.std.specs.List.{slice_split, onto_first, position_or_len, before_first, after_first, list_all}
+use Rattle.std.specs.List.{slice_split, onto_first, position_or_len, before_first, after_first}
 use Rattle.std.proofs.lemmas.Bool.{false≢true}
 use Rattle.std.proofs.lemmas.List.Splits.{slice_split_first, length-slice_split}
 use Rattle.am_model.specs.Filters.{is_empty}
-use Rattle.am_model.specs.Links.{are_domain_parts, is_domain_part, is_octet, is_top_part, parts_of, with_byte}
+use Rattle.am_model.specs.Links.{are_domain_parts, is_domain_part, is_top_part, parts_of, with_byte}
 
 -- the byte is a dot
 abbrev pub is_dot : ℕ → Bool

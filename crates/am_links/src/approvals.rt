@@ -39,16 +39,21 @@ fn declares_host(host: &Text, filter: &Filter) -> bool
         && lists_host(&filter.authorities, host)
 }
 
+/// One of the filters asks for that.
+fn some_declares_host(host: &Text, filters: &List<Filter>) -> bool
+    ensures { result ≡ list_any (declares_host host.now) filters.now }
+{
+    filters
+        .as_slice()
+        .iter()
+        .any(|filter| declares_host(host, filter))
+}
+
 /// The component is an activity with such a filter.
 fn is_declared_by(host: &Text, decl: &Decl) -> bool
     ensures { result ≡ (is_kind Activity decl.now.kind && list_any (declares_host host.now) decl.now.filters) }
 {
-    matches!(decl.kind, Kind::Activity)
-        && decl
-            .filters
-            .as_slice()
-            .iter()
-            .any(|filter| declares_host(host, filter))
+    matches!(decl.kind, Kind::Activity) && some_declares_host(host, &decl.filters)
 }
 
 /// An activity of the package has such a filter.

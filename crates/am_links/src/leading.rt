@@ -124,15 +124,21 @@ fn find_leading(
     })
 }
 
+/// Some of the candidates is left.
+fn leaves_some(leads: &Leading, found: &List<Candidate>) -> bool
+    ensures { result ≡ list_any (is_left (led_by leads.now)) found.now }
+{
+    found
+        .as_slice()
+        .iter()
+        .any(|candidate| is_left(leads, candidate))
+}
+
 /// What decides, unless it leaves none of the candidates.
 fn unless_none_left(leads: Leading, found: &List<Candidate>) -> Option<Leading>
     ensures { option_map led_by result ≡ unless_none_left (led_by leads) found.now }
 {
-    let some_left = found
-        .as_slice()
-        .iter()
-        .any(|candidate| is_left(&leads, candidate));
-    if some_left {
+    if leaves_some(&leads, found) {
         return Some(leads);
     }
     drop(leads);

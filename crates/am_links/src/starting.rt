@@ -9,7 +9,7 @@ use am_types::{Hit, Kind};
 
 /// The caller is admitted.
 fn admits(ruling: Ruling) -> bool
-    ensures { result ≡ admits (verdict_of ruling) }
+    ensures { result ≡ admits (verdict_of ruling.entry) }
 {
     match ruling {
         Ruling::Admit => true,

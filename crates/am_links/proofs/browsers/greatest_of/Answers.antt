@@ -1,9 +1,6 @@
-use Rattle.std.proofs.Common.{◌≡◌, ◌+◌, ◌<◌, ℤ, List, drop, length, get_or, refl, sym, ap, ◌∙◌, subst, arith}
-use Rattle.std.specs.Int.{int_max}
-use Rattle.std.specs.Prelude.{pos}
-use Rattle.std.proofs.lemmas.Int.{ints, to_z-of_z}
-use Rattle.am_model.specs.Links.{browsers_of, greatest_of}
-use Rattle.am_types.specs.declared.resolve.Candidate.{Candidate}
+use Rattle.std.proofs.Common.{refl, arith}
+use Rattle.std.proofs.lemmas.Int.{to_z-of_z}
+use Rattle.am_model.specs.Links.{browsers_of}
 use Rattle.am_links.proofs.Greatest.{at_least_none, joined_at, stays}
 use Rattle.am_links.proofs.browsers.greatest_of.Goals as goal
 

@@ -1,4 +1,4 @@
-use Rattle.std.proofs.Common.{◌≡◌, ◌&&◌, Bool, true, false, List, Some, None, ℕ, sym, ap, ◌∙◌, arith, rules}
+use Rattle.std.proofs.Common.{◌≡◌, ◌&&◌, true, false, Some, None, sym, ap, ◌∙◌, arith, rules}
 use Rattle.std.proofs.lemmas.Str.Pattern.{split_once_first}
 use Rattle.am_model.specs.Links.{are_domain_parts, is_domain_part, is_top_part, parts_of}
 use Rattle.am_links.proofs.Parts.{first_of_more, one_of_one}
