@@ -1,3 +1,4 @@
 pub mod Hosts
+pub mod Reasons
 pub mod Repeats
 pub mod Unions
