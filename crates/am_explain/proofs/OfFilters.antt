@@ -122,7 +122,7 @@ found_other Android12 board asked owner decl finding =
   where
     left_out_other : (narrowing : Option Narrowing) (next : Standing) → IsOther next
         → IsOther (unless_left_out narrowing next)
-    left_out_other None next other = other
+    left_out_other None next other rs e = other rs e
     left_out_other (Some narrowing) next other rs e = cc
 
     plain_other : (outranked tied : Bool) (rule : Option Rule)
@@ -186,5 +186,5 @@ of_registered false true (Some reason) rule rs e = let same : reason ∷ [] ≡ 
 pub reasons_are_of_filters : ReasonsAreOfFilters
 reasons_are_of_filters = record {
   components = λ board asked owner decl rs e. of_component board asked owner decl rs _ _ decl.enabled e;
-  registered = λ board asked r rs e. of_registered _ _ (why r.filter asked.intent false) _ rs e;
+  registered = λ board asked r rs e. of_registered _ _ (unheard_why board.rules r.filter asked.intent) _ rs e;
 }
