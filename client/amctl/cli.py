@@ -92,14 +92,15 @@ def why(
     if near:
         nearest = nearest_of(found, kind.kind, asked, device.file)
         found, rest = nearest.accounts, nearest.rest
+    about = words.About(caller.package, kind.kind, asked, device.file)
     if asking.json:
         show.show_json({"accounts": results.to_json(found), **({"rest": rest} if near else {})})
     elif not found:
         print(words.none_of_kind(kind.kind, of))
     else:
-        show.show_accounts(show.account_rows(found, words.About(caller.package, kind.kind, asked, device.file)))
+        show.show_accounts(show.account_rows(found, about))
         if rest:
-            print(words_reasons.rest(rest))
+            print(words_reasons.rest(rest, about))
 
 
 @app.command(epilog="Example: amctl start --as com.browser https://www.photos.example/album/cats")
