@@ -478,8 +478,7 @@ def _filtered(found: Account, about: About) -> Sentence:
     if not found.reasons:
         return _filled(VERDICTS["no_filter"], _about(found.to, None, about))
     component = about.file.component(about.kind, str(found.to))
-    filters = _counted(component, about.file) if component else []
-    known: list["Filter | None"] = [*filters] if len(filters) == len(found.reasons) else [None] * len(found.reasons)
+    known: Sequence["Filter | None"] = _with_reasons(component, len(found.reasons)) if component else [None] * len(found.reasons)
     said = [reason(why, filter, about.intent) for why, filter in zip(found.reasons, known)]
     numbered = said if len(said) == 1 else [f"filter {number} {it}" for number, it in enumerate(said, 1)]
     reasons = found.reasons
@@ -488,10 +487,10 @@ def _filtered(found: Account, about: About) -> Sentence:
     return Sentence(says, change_of(reasons[nearest], known[nearest], about.intent))
 
 
-def _counted(component: "Component", file: "DeviceFile") -> "list[Filter]":
-    """The filters that have a reason: one without an action isn't a filter, but a phone keeps a service's."""
-    is_kept = component.kind == "service" and file.answers_as_phone
-    return [it for it in component.filters if it.actions or is_kept]
+def _with_reasons(component: "Component", count: int) -> "Sequence[Filter | None]":
+    """The filters that the reasons are of: those with an action, since others aren't filters, or all if `am` gives all a reason."""
+    sets = ([it for it in component.filters if it.actions], component.filters)
+    return next((it for it in sets if len(it) == count), [None] * count)
 
 
 PLACED = {

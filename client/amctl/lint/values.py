@@ -75,8 +75,7 @@ def _name(value: str, key: str) -> str | None:
 
 
 def _filter(file: DeviceFile, it: Filter, component: Component) -> Iterator[Finding]:
-    # a phone keeps a service's
-    if not it.actions and not (component.kind == "service" and file.answers_as_phone):
+    if not it.actions:
         yield finding(file, it.at, "no-effect", words_lint.no_action())
     if component.kind != "activity":
         return
