@@ -436,7 +436,8 @@ def account(found: Account, about: About) -> Sentence:
     form = forms.get(found.by or found.verdict)
     if form is None:
         return Sentence(f"{found.verdict}, which this client doesn't know", "use the client of the same version")
-    return _filled(form, _about(found.to, found.name, about))
+    places = _about(found.to, found.name, about)
+    return _filled(form, places | _of_link(found.to, about) if found.verdict == "narrowed" else places)
 
 
 def receiver(found: Receiver, about: About) -> Sentence:
@@ -445,12 +446,9 @@ def receiver(found: Receiver, about: About) -> Sentence:
 
 
 def _about(to: To, name: str | None, about: About) -> dict[str, str]:
-    package = str(to).partition("/")[0]
     return {
         "to": shown(to),
-        "package": package,
-        "approval": _approval(to, package, about),
-        "browser_change": f"name it (`-n {shown(to)}`)" if package == about.file.browser else f"`browser = \"{package}\"` in the device file",
+        "package": str(to).partition("/")[0],
         "caller": about.caller,
         "named": about.intent.component or about.intent.package or "",
         "host": about.host,
@@ -460,8 +458,15 @@ def _about(to: To, name: str | None, about: About) -> dict[str, str]:
     }
 
 
+def _of_link(to: To, about: About) -> dict[str, str]:
+    """What would have a phone open a link by an activity that its narrowing leaves out."""
+    package = str(to).partition("/")[0]
+    browser = f"name it (`-n {shown(to)}`)" if package == about.file.browser else f"`browser = \"{package}\"` in the device file"
+    return {"approval": _approval(to, package, about), "browser_change": browser}
+
+
 def _approval(to: To, package: str, about: About) -> str:
-    """What would have a phone open links by an app: an approval that counts, of the app that was installed last."""
+    """An approval that counts: of a host that the manifest has."""
     of_file = about.file.package(package)
     counts = approvals_for(of_file.components if of_file else (), about.host)
     if any(it.package == package and it.host.lower() in counts for it in about.file.links):
