@@ -538,6 +538,12 @@ def linked(package: str, host: str, approved: bool) -> str:
     return f"{package} is {'' if approved else 'not '}approved for {host}."
 
 
+def uncounted(package: str, host: str, near: str | None) -> str:
+    return f"a phone counts this for nothing, since no filter of {package} with VIEW, BROWSABLE and http or https lists {host}: " + (
+        f"approve '{near}'." if near else "add one to its manifest."
+    )
+
+
 def stopped(package: str) -> str:
     return f"{package} is stopped, with all that it had."
 

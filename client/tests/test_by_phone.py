@@ -225,3 +225,21 @@ def test_adb_shows_a_wildcard_as_it_is_approved(tmp_path: Path) -> None:
         path.write_text(device(PHOTOS, top=top), encoding="utf-8")
         said = run_python("-m", "amctl", "adb", "shell", "pm", "get-app-links", "com.photos", cwd=tmp_path, AMCTL_DEVICE=str(path))
         assert f"      {host}: none\n" in said.out, said
+
+
+@pytest.mark.parametrize(
+    ("top", "host", "said"),
+    [
+        (RULES, "*.photos.example", ""),
+        (RULES, "www.photos.example", "lists www.photos.example: approve '*.photos.example'."),
+        (RULES, "other.example", "lists other.example: add one to its manifest."),
+        ("", "www.photos.example", ""),
+    ],
+)
+def test_an_approval_that_counts_for_nothing_is_told(top: str, host: str, said: str, tmp_path: Path) -> None:
+    path = tmp_path / "device.toml"
+    path.write_text(device(PHOTOS, top=top), encoding="utf-8")
+    link = ("-m", "amctl", "link", "--device", str(path), "--store", str(tmp_path / "rows"), "com.photos", host)
+    approved, denied = run_python(*link), run_python(*link, "--denied")
+    assert (approved.status, denied.status, denied.err) == (0, 0, "")
+    assert approved.err.rstrip().endswith(said) and bool(approved.err) == bool(said)
