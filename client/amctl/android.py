@@ -2,6 +2,7 @@
 
 MAIN = "android.intent.action.MAIN"
 VIEW = "android.intent.action.VIEW"
+APP_BROWSER = "android.intent.category.APP_BROWSER"
 BROWSABLE = "android.intent.category.BROWSABLE"
 DEFAULT = "android.intent.category.DEFAULT"
 LAUNCHER = "android.intent.category.LAUNCHER"

@@ -13,12 +13,13 @@ import typer
 
 from amctl import __version__, results, show, words, words_reasons
 from amctl.device import Device, Refusal
-from amctl.devicefile import Kind, text_of
+from amctl.devicefile import DeviceFile, Kind, text_of
 from amctl.errors import AmctlError, BadWords
 from amctl.find import find_am, is_unproved
 from amctl.near import nearest as nearest_of
 from amctl.options import CA, USER, Asking, IntentWords, option, with_groups
 from amctl.results import Choose
+from amctl.weblinks import covers, declared_hosts
 
 NO_COMMAND = re.compile(r"No such command '(.*)'")
 REFUSED = 1
@@ -92,14 +93,15 @@ def why(
     if near:
         nearest = nearest_of(found, kind.kind, asked, device.file)
         found, rest = nearest.accounts, nearest.rest
+    about = words.About(caller.package, kind.kind, asked, device.file)
     if asking.json:
         show.show_json({"accounts": results.to_json(found), **({"rest": rest} if near else {})})
     elif not found:
         print(words.none_of_kind(kind.kind, of))
     else:
-        show.show_accounts(show.account_rows(found, words.About(caller.package, kind.kind, asked, device.file)))
+        show.show_accounts(show.account_rows(found, about))
         if rest:
-            print(words_reasons.rest(rest))
+            print(words_reasons.rest(rest, about))
 
 
 @app.command(epilog="Example: amctl start --as com.browser https://www.photos.example/album/cats")
@@ -271,7 +273,10 @@ def link(
     _check_host(host)
     with asking.open() as device:
         asking.caller(device).link(package, host, approved=not denied)
+        uncounted = None if denied else _uncounted(device.file, package, host)
     _done(asking, {}, words.linked(package, host, not denied))
+    if uncounted:
+        print(f"amctl: {uncounted}", file=sys.stderr)
 
 
 @app.command("force-stop", epilog="Example: amctl force-stop --url http://127.0.0.1:8080 --device device.toml com.photos")
@@ -509,6 +514,15 @@ def _done(asking: Asking, reply: Mapping[str, int | None], sentence: str, *, is_
         print(sentence)
     if where.url is None and not (is_kept_in_store and where.store is not None):
         print(f"amctl: {words.NOT_KEPT if is_kept_in_store else words.NOT_KEPT_IN_STORE}", file=sys.stderr)
+
+
+def _uncounted(file: DeviceFile, package: str, host: str) -> str | None:
+    """Why an approval counts for nothing on a phone, as far as the device file tells."""
+    of_file = file.package(package)
+    if of_file is None or not file.answers_as_phone:
+        return None
+    declared = declared_hosts(of_file.components)
+    return None if host.lower() in declared else words.uncounted(package, host, next((it for it in declared if covers(it, host)), None))
 
 
 def _check_host(host: str) -> None:

@@ -15,6 +15,9 @@ from amctl.places import Place, places
 Kind = Literal["activity", "service", "receiver"]
 KINDS: tuple[Kind, ...] = ("activity", "service", "receiver")
 SYSTEM = "android"
+# by which rules a device answers: the profile's unless its file says otherwise
+PROFILE, ANDROID_12 = "profile", "android-12"
+RULES = (PROFILE, ANDROID_12)
 # a line of a fault is shown, but never a key in it
 KEY_VALUE = re.compile(r"""((?:^|[\s{,.])["']?(?:system_key|root_key|key)["']?\s*=\s*)("(?:[^"\\]|\\.)*"?|'[^']*'?|[^,}\s]+)""")
 # if a text isn't closed nobody knows where the key ends, and its name may be misspelt too
@@ -125,6 +128,15 @@ class DeviceFile:
     @property
     def browser(self) -> str | None:
         return _text(self.document, "browser") or None
+
+    @property
+    def rules(self) -> str:
+        """The rules by which the device answers, as the file names them."""
+        return _text(self.document, "rules") or PROFILE
+
+    @property
+    def answers_as_phone(self) -> bool:
+        return self.rules == ANDROID_12
 
     @property
     def names(self) -> tuple[str, ...]:

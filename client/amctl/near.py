@@ -29,14 +29,14 @@ def nearest(accounts: Sequence[Account], kind: Kind, intent: Intent, file: Devic
     missed = [it for it in accounts if it.verdict not in REACHED]
     missed.sort(key=lambda it: _passed(it, kind, intent, file), reverse=True)
     shown, others = missed[:most], missed[most:]
-    return Near((*reached, *shown), dict(Counter(map(reason_of, others)).most_common()))
+    return Near((*reached, *shown), dict(Counter(reason_of(it, intent) for it in others).most_common()))
 
 
-def reason_of(account: Account) -> str:
+def reason_of(account: Account, intent: Intent) -> str:
     """The verdict, or the reason of the filter that passed the most tests."""
     if account.verdict != "filters":
         return account.verdict
-    return max(account.reasons, key=tests_passed) if account.reasons else NO_FILTER
+    return max(account.reasons, key=lambda it: tests_passed(it, intent)) if account.reasons else NO_FILTER
 
 
 def _passed(account: Account, kind: Kind, intent: Intent, file: DeviceFile) -> tuple[int, bool]:
@@ -49,4 +49,4 @@ def _passed(account: Account, kind: Kind, intent: Intent, file: DeviceFile) -> t
         return -1, False
     component = file.component(kind, str(account.to))
     actions = [action for it in component.filters for action in it.actions] if component else []
-    return max(map(tests_passed, account.reasons)), is_alike(intent.action or "", actions)
+    return max(tests_passed(it, intent) for it in account.reasons), is_alike(intent.action or "", actions)

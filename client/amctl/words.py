@@ -1,19 +1,21 @@
 """Every sentence that a person reads: verdicts, reasons, refusals, faults and endings, each with what would change it."""
 import difflib
 import re
+import shlex
 from collections.abc import Mapping, Sequence
 from dataclasses import dataclass, field
 from datetime import datetime, timezone
 from typing import TYPE_CHECKING, Any
 from amctl.intents import Intent
 from amctl.results import Account, Advanced, Choose, Entry, Instance, Item, OrderedDelivery, Placed, Receiver, Result, Service, Started, To
+from amctl.weblinks import approvals_for
 from amctl.words_reasons import change_of, reason, tests_passed
 from amctl.words_reasons import host_and_path as host_and_path
 from amctl.words_reasons import short as short
 
 if TYPE_CHECKING:
     # a device file's own messages are here too
-    from amctl.devicefile import DeviceFile, Filter, Kind
+    from amctl.devicefile import Component, DeviceFile, Filter, Kind
 
 
 @dataclass(frozen=True)
@@ -193,6 +195,7 @@ FORMS = {
     "protected": "write a list of actions in quotes",
     "exempt": "write a list of actions in quotes",
     "browser": "write the name of a package in quotes",
+    "rules": "write \"profile\" or \"android-12\"",
     "grant": "write tables: `[[grant]]`",
     "link": "write tables: `[[link]]`",
     "activity": "write tables: `[[package.manifest.activity]]`",
@@ -390,6 +393,15 @@ VERDICTS = {
     "protected_action": Sentence("only the system and the root may broadcast {action}", "send as the system, or take it from `protected` in the device file"),
 }
 
+# what these say by a phone's rules
+BY_PHONE = {
+    "approved": Sentence("another activity, which is approved for {host}, gets the link alone", "{approval}"),
+    "browser": Sentence("of the browsers the device's own, {browser}, gets it alone", "{browser_change}"),
+    "general": Sentence("not approved for {host}, so the link is for browsers", "{approval}"),
+    "tied": Sentence("it shares the greatest priority with others that {caller} may start, so the user would choose", VERDICTS["tied"].change),
+}
+
+
 @dataclass(frozen=True)
 class About:
     """What was asked, for the sentences on each component."""
@@ -402,6 +414,10 @@ class About:
     @property
     def host(self) -> str:
         return host_and_path(self.intent.data)[0]
+
+    @property
+    def scheme(self) -> str:
+        return (self.intent.data or "").partition(":")[0]
 
 
 def shown(to: To) -> str:
@@ -416,10 +432,12 @@ def account(found: Account, about: About) -> Sentence:
     """Why an intent reaches a component or doesn't."""
     if found.verdict == "filters":
         return _filtered(found, about)
-    form = VERDICTS.get(found.by or found.verdict)
+    forms = {**VERDICTS, **BY_PHONE} if about.file.answers_as_phone else VERDICTS
+    form = forms.get(found.by or found.verdict)
     if form is None:
         return Sentence(f"{found.verdict}, which this client doesn't know", "use the client of the same version")
-    return _filled(form, _about(found.to, found.name, about))
+    places = _about(found.to, found.name, about)
+    return _filled(form, places | _of_link(found.to, about) if found.verdict == "narrowed" else places)
 
 
 def receiver(found: Receiver, about: About) -> Sentence:
@@ -440,20 +458,44 @@ def _about(to: To, name: str | None, about: About) -> dict[str, str]:
     }
 
 
+def _of_link(to: To, about: About) -> dict[str, str]:
+    """What would have a phone open a link by an activity that its narrowing leaves out."""
+    package = str(to).partition("/")[0]
+    browser = f"name it (`-n {shown(to)}`)" if package == about.file.browser else f"`browser = \"{package}\"` in the device file"
+    return {"approval": _approval(to, package, about), "browser_change": browser}
+
+
+def _approval(to: To, package: str, about: About) -> str:
+    """An approval that counts: of a host that the manifest has."""
+    of_file = about.file.package(package)
+    counts = approvals_for(of_file.components if of_file else (), about.host)
+    if any(it.package == package and it.host.lower() in counts for it in about.file.links):
+        return f"name it (`-n {shown(to)}`), or take the other's approval back: `amctl link --denied`"
+    command = f"`amctl link {package} {shlex.quote(counts[0] if counts else about.host)}`"
+    if of_file and not counts:
+        return f"declare {about.host} in a filter of it with VIEW, BROWSABLE and {about.scheme}, and then {command}"
+    needs = "" if of_file else f", which counts if a filter of it with VIEW, BROWSABLE and {about.scheme} lists the host"
+    return f"{command}{needs}; of the approved apps the one installed last gets the link"
+
+
 def _filtered(found: Account, about: About) -> Sentence:
     """Why none of a component's filters passes; what would change it is said of the one that comes nearest."""
     if not found.reasons:
         return _filled(VERDICTS["no_filter"], _about(found.to, None, about))
     component = about.file.component(about.kind, str(found.to))
-    # a filter without an action isn't a filter, and has no reason
-    filters = [it for it in component.filters if it.actions] if component else []
-    known: list["Filter | None"] = [*filters] if len(filters) == len(found.reasons) else [None] * len(found.reasons)
+    known: Sequence["Filter | None"] = _with_reasons(component, len(found.reasons)) if component else [None] * len(found.reasons)
     said = [reason(why, filter, about.intent) for why, filter in zip(found.reasons, known)]
     numbered = said if len(said) == 1 else [f"filter {number} {it}" for number, it in enumerate(said, 1)]
     reasons = found.reasons
-    nearest = max(range(len(reasons)), key=lambda it: tests_passed(reasons[it]))
+    nearest = max(range(len(reasons)), key=lambda it: tests_passed(reasons[it], about.intent))
     says = f"its filter {said[0]}" if len(said) == 1 else "; ".join(numbered)
     return Sentence(says, change_of(reasons[nearest], known[nearest], about.intent))
+
+
+def _with_reasons(component: "Component", count: int) -> "Sequence[Filter | None]":
+    """The filters that the reasons are of: those with an action, since others aren't filters, or all if `am` gives all a reason."""
+    sets = ([it for it in component.filters if it.actions], component.filters)
+    return next((it for it in sets if len(it) == count), [None] * count)
 
 
 PLACED = {
@@ -494,6 +536,12 @@ def granted(package: str, permission: str, held: bool) -> str:
 
 def linked(package: str, host: str, approved: bool) -> str:
     return f"{package} is {'' if approved else 'not '}approved for {host}."
+
+
+def uncounted(package: str, host: str, near: str | None) -> str:
+    return f"a phone counts this for nothing, since no filter of {package} with VIEW, BROWSABLE and http or https lists {host}: " + (
+        f"approve '{near}'." if near else "add one to its manifest."
+    )
 
 
 def stopped(package: str) -> str:

@@ -9,7 +9,7 @@ from amctl.words import shown
 RULES: Mapping[str, Rule] = {
     "unreadable": Rule("app", "error", "The app can't be read, or `am` refuses its manifest."),
     "left-out": Rule("app", "note", "The converter left this out of the app, or wrote it otherwise, so it wasn't looked at."),
-    "taken": Rule("resolution", "error", "What one app opened, another app opens once this one is installed."),
+    "taken": Rule("resolution", "error", "What one app opened, another app opens once this one is installed, or by a phone's rules once it is approved too."),
     "refused": Rule("resolution", "error", "What an app opened goes to an activity that refuses its caller."),
     "asks": Rule("resolution", "warning", "What one app opened asks the user to choose."),
     "one-more": Rule("resolution", "note", "Where the user chose before, the choice is another one."),
@@ -45,6 +45,11 @@ WHY: Mapping[str, str] = {
     "general": "narrowed by general: only what takes any host stays",
     "not_exported": "the new target isn't exported",
     "needs_permission": "the new target asks for a permission",
+}
+# what these say by a phone's rules
+WHY_BY_PHONE: Mapping[str, str] = {
+    "approved": "narrowed by approved: of the approved apps only the one installed last stays",
+    "general": "narrowed by general: only browsers stay",
 }
 
 
@@ -92,6 +97,12 @@ def components(names: Sequence[str]) -> str:
     return f"{', '.join(before)} and {last}" if before else last
 
 
+def why(rule: str, *, answers_as_phone: bool) -> str:
+    """Why a component doesn't open the intent any more."""
+    said = {**WHY, **WHY_BY_PHONE} if answers_as_phone else WHY
+    return said.get(rule, rule)
+
+
 def _by_system(differs: str) -> str:
     return f"; the system {differs}" if differs else ""
 
@@ -102,6 +113,12 @@ def taken(old: str, new: str, why: str, system: str) -> str:
 
 def turned_down(old: str, new: str, why: str, system: str) -> str:
     return f"went from {shown(old)} to {shown(new)}, which refuses the caller ({why}){_by_system(system)}"
+
+
+def shut_all(old: Sequence[str], why: str) -> str:
+    """What opened, or what the user chose among, and now activities tie that all refuse their caller."""
+    before = f"opened {shown(old[0])}" if len(old) == 1 else f"asked among {components(old)}"
+    return f"{before}, and now nothing opens it, since all that share the greatest priority refuse the caller" + (f" ({why})" if why else "")
 
 
 def asks(old: str, among: Sequence[str], why: str) -> str:
@@ -145,6 +162,10 @@ def says_outcome(way: str, names: Sequence[str]) -> str:
 
 def link(now: str, approved: str, why: str) -> str:
     return f"as it is: {now}; once approved: {approved}" + (f" ({why})" if why else "")
+
+
+def link_taken(old: str, new: str, why: str) -> str:
+    return f"opens {shown(old)}, whose app is approved, and {shown(new)} once this app is approved too ({why})"
 
 
 def link_unstated(host: str, package: str) -> str:

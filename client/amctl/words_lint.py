@@ -132,6 +132,23 @@ def link_unlisted(package: str, host: str, near: str | None) -> str:
     )
 
 
+def link_undeclared(package: str, host: str, near: str | None) -> str:
+    return f"no activity of {package} has a filter with VIEW, BROWSABLE, http or https, and the host {host}, so the approval counts for nothing: " + (
+        f"did you mean \"{near}\"?" if near else "add the host to a filter, or take the link out."
+    )
+
+
+def no_browser(name: str) -> str:
+    return (
+        f"no activity of {name} is a browser, so the device has none: give a filter of it the category APP_BROWSER, or one with VIEW, BROWSABLE,"
+        " http or https, and no host; or take `browser` out."
+    )
+
+
+def no_such_rules(value: str, near: str | None) -> str:
+    return f"there are no rules \"{value}\": " + (f"did you mean \"{near}\"?" if near else "write \"profile\" or \"android-12\".")
+
+
 def no_such_browser(name: str, near: str) -> str:
     return f"no package is called {name}, so the device has no browser: did you mean {near}?"
 

@@ -73,7 +73,7 @@ def beyond(package: str) -> str:
 
 
 def wildcard(host: str) -> str:
-    return f"it is approved for all hosts of {host}; a device file approves exact hosts alone, so add a [[link]] for each that you ask for."
+    return f"the phone says that it is approved for {host.removeprefix('*.')}, which its filters have as {host}: both are written."
 
 
 def head(serial: str, release: str, level: str) -> Sequence[str]:

@@ -25,7 +25,7 @@ def intent(found: Intent) -> str:
 
 
 def _call(command: re.Match[str]) -> str:
-    name, given = command[1], command[2].split()
+    name, given = command[1], [_bare(it) for it in command[2].split()]
     if name in OF_APP:
         # what a question is about stands beside the sentence
         kind = [repr(given[given.index("--kind") + 1])] if "--kind" in given else []
@@ -36,6 +36,11 @@ def _call(command: re.Match[str]) -> str:
         name, words = "grant", [*words, "held=False"]
     words += [others[it] for it in given if it in others]
     return f"`device.system.{name.replace('-', '_')}({', '.join(words)})`"
+
+
+def _bare(word: str) -> str:
+    """A word without the quotes that a shell takes away."""
+    return word[1:-1] if len(word) > 1 and word[0] == word[-1] == "'" else word
 
 
 def _field(option: re.Match[str]) -> str:

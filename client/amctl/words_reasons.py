@@ -8,6 +8,7 @@ from amctl.intents import Intent
 
 if TYPE_CHECKING:
     from amctl.devicefile import Filter
+    from amctl.words import About
 
 REASON_ORDER = ("action", "scheme", "host", "path", "type", "category")
 REASON_CHANGES = {
@@ -48,6 +49,14 @@ REST = {
 }
 
 
+# what is said instead of those that aren't shown by a phone's rules
+REST_BY_PHONE = {
+    "narrowed": "that the narrowing of web links leaves out",
+    "tied": "that share the greatest priority of those that may be started",
+}
+UNFOUND = "whose filters aren't found without an action"
+
+
 def host_and_path(uri: str | None) -> tuple[str, str]:
     """The host and the path of a URI, as far as it has them."""
     try:
@@ -66,6 +75,8 @@ def short(name: str) -> str:
 def reason(why: str, filter: "Filter | None", intent: Intent) -> str:
     """Why one filter doesn't pass, as the end of a sentence about it."""
     host, path = host_and_path(intent.data)
+    if is_unfound(why, intent):
+        return _unfound_reason(intent)
     if why == "action":
         listed = filter.actions if filter else ()
         shown = _shortened(intent.action or "", listed)
@@ -85,6 +96,8 @@ def reason(why: str, filter: "Filter | None", intent: Intent) -> str:
 
 def change_of(why: str, filter: "Filter | None", intent: Intent) -> str:
     """What would change that a filter doesn't pass."""
+    if is_unfound(why, intent):
+        return _change_of_unfound(filter)
     asked = (intent.action or "",) if why == "action" else intent.categories if why == "category" else ()
     listed = () if filter is None else filter.actions if why == "action" else filter.categories
     option = "-a" if why == "action" else "-c"
@@ -92,15 +105,30 @@ def change_of(why: str, filter: "Filter | None", intent: Intent) -> str:
     return f"write it as the filter does (`{option} {whole}`)" if whole else REASON_CHANGES.get(why, "change its filter")
 
 
-def tests_passed(why: str) -> int:
-    """How many tests of a filter an intent passed before this one."""
+def tests_passed(why: str, intent: Intent) -> int:
+    """How many tests of a filter an intent passed before this one: all, if a phone only doesn't find the filter."""
+    if is_unfound(why, intent):
+        return len(REASON_ORDER)
     return REASON_ORDER.index(why) if why in REASON_ORDER else 0
 
 
-def rest(counts: Mapping[str, int]) -> str:
+def is_unfound(why: str, intent: Intent) -> bool:
+    """Whether a filter that passes isn't found, as by a phone's rules: no test of the action fails without one."""
+    return why == "action" and intent.action is None
+
+
+def rest(counts: Mapping[str, int], about: "About") -> str:
     """Those that aren't shown, counted."""
-    said = [f"{count} {REST.get(why, why)}" for why, count in counts.items()]
+    said = [f"{count} {rest_of(why, about)}" for why, count in counts.items()]
     return f"{sum(counts.values())} more: {', '.join(said)}."
+
+
+def rest_of(why: str, about: "About") -> str:
+    """What is said of those that aren't shown for this reason or verdict."""
+    if is_unfound(why, about.intent):
+        return UNFOUND
+    said = {**REST, **REST_BY_PHONE} if about.file.answers_as_phone else REST
+    return said.get(why, why)
 
 
 def is_alike(name: str, listed: Sequence[str]) -> bool:
@@ -116,6 +144,20 @@ def _alike(name: str, listed: Sequence[str]) -> list[str]:
 def _shortened(name: str, listed: Sequence[str]) -> Callable[[str], str]:
     """Leaves Android's prefix out, except where it is what differs."""
     return (lambda it: it) if _alike(name, listed) else short
+
+
+def _unfound_reason(intent: Intent) -> str:
+    """An intent may pass a filter for which a phone looks by the action alone."""
+    if intent.type is None:
+        return "passes, but isn't found by an intent with neither action nor data nor type"
+    return f"passes, but a phone finds it for the type {intent.type} by its action, and the intent has none"
+
+
+def _change_of_unfound(filter: "Filter | None") -> str:
+    if filter is None:
+        return "ask by an action that it lists"
+    by_action = f"ask by an action that it lists (`-a {filter.actions[0]}`), or " if filter.actions else ""
+    return f"{by_action}name its package in the intent (`-p`)"
 
 
 def _scheme_reason(filter: "Filter | None", intent: Intent) -> str:

@@ -146,11 +146,11 @@ def _named(names: Sequence[str]) -> str:
     return f"{', '.join(first)} and {names[-1] if len(names) <= MOST_NAMED else f'{len(names) - len(first)} more'}"
 
 
-def group_line(count: int, why: str, kind: "Kind") -> str:
+def group_line(count: int, why: str, about: words.About) -> str:
     """How many components share a reason that isn't shown of each."""
     if why == "reached":
-        return f"{count} more that {_GETS[kind] if count == 1 else 'get it'}"
-    return f"{count} {words_reasons.REST.get(why, why)}"
+        return f"{count} more that {_GETS[about.kind] if count == 1 else 'get it'}"
+    return f"{count} {words_reasons.rest_of(why, about)}"
 
 
 def no_extra_name(value: str) -> str:

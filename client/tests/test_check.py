@@ -283,6 +283,7 @@ ROWS = [
     '{ scheme = "geo", host = "*.b.example", port = 80 }',
     r'{ scheme = "geo", host = "a", pathPattern = "/a\\.*/b.\\*c*" }',
     '{ scheme = "geo", host = "a", pathPattern = ".*" }',
+    r'{ scheme = "geo", host = "a", pathPattern = "/x/.*album/.*\\ab.*.z" }',
     '{ scheme = "geo", host = "a", pathPrefix = "/é %" }',
     '{ scheme = "geo", host = "a", pathSuffix = "?x" }',
     '{ mimeType = "*/*" }',
@@ -290,10 +291,11 @@ ROWS = [
 ]
 
 
+@pytest.mark.parametrize("top", ["", 'rules = "android-12"'], ids=["the profile", "a phone"])
 @pytest.mark.parametrize("row", ROWS)
-def test_each_filter_takes_its_witnesses(row: str, tmp_path: Path) -> None:
+def test_each_filter_takes_its_witnesses(row: str, top: str, tmp_path: Path) -> None:
     manifest = app(component(filters=[filter_of("x.B", row)]))
-    found = [it for it in Checked(tmp_path, manifest=manifest).findings() if it.rule == "opens"]
+    found = [it for it in Checked(tmp_path, device(OLD, top=top), manifest).findings() if it.rule == "opens"]
     asked = questions(components_of(manifest_of(manifest)))
     assert [it.about for it in found] == sorted(words.intent(it.intent) for it in asked)
     assert all(it.message == "nothing opened it, and now com.new/.C does" for it in found)

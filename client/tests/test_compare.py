@@ -17,8 +17,10 @@ import pytest
 from amctl.compare import command, everyday, lines
 from amctl.compare.command import Asked, compare
 from amctl.compare.question import Outcome, Question
-from amctl.compare.rules import BY_REASON, BY_VERDICT, OFFERS
+from amctl.compare.rules import BY_REASON, BY_VERDICT, FINDING, OFFERS
+from amctl.compare.simulated import Simulated
 from amctl.compare.suite import question_of, read_suite
+from amctl.device import Device
 from amctl.devicefile import DeviceFile
 from amctl.errors import BadWords
 from amctl.find import find_am
@@ -117,7 +119,7 @@ def test_a_planted_difference_is_found(plant: Plant, tmp_path: Path) -> None:
     assert any(f"\n    phone  {plant.phone}\n" in it and plant.component in it for it in differences), out
     # no rule keeps out what isn't there
     assert all("\n    rule   " in it or "it isn't in the device file" in it for it in differences)
-    assert 0 < len(differences) <= 12 and f"{100 - len(differences)} agree" in out
+    assert 0 < len(differences) <= 13 and f"{100 - len(differences)} agree" in out
 
 
 def test_at_least_twenty_are_planted() -> None:
@@ -190,11 +192,11 @@ def test_a_difference_as_text(tmp_path: Path) -> None:
     phone  opens com.browser/.Page
     am     opens com.photos/.Album
     com.photos/.Album  reached
-    com.browser/.Page  not approved for www.photos.example, and another app is
-                       -> `amctl link com.browser www.photos.example`, or a `[[link]]` in the device file
+    com.browser/.Page  another activity, which is approved for www.photos.example, gets the link alone
+                       -> declare www.photos.example in a filter of it with VIEW, BROWSABLE and https, and then `amctl link com.browser www.photos.example`
     rule   Target (docs/PROFILE.md, Which activity a start reaches)
     rule   Narrowing (docs/PROFILE.md, Which activity a start reaches)
-    rules  this `am` has no other rules
+    rules  profile answers: opens com.photos/.Album
 
 1 question: 0 agree, 1 differs, 0 not compared.
 """
@@ -208,7 +210,7 @@ def test_a_difference_as_json_and_as_junit(tmp_path: Path) -> None:
         xml = compared(phone, questions, "junit")[1]
     assert "standin-mail" not in json.dumps(found) + xml, "a key is never shown"
     assert found["counts"] == {"asked": 3, "agree": 1, "differ": 1, "unasked": 1}
-    assert found["phone"] == {"serial": "standin-1", "level": "31"} and found["rules"] == "profile" and found["stopped"] == ["com.maps"]
+    assert found["phone"] == {"serial": "standin-1", "level": "31"} and found["rules"] == "android-12" and found["stopped"] == ["com.maps"]
     differs, agrees, unasked = found["questions"]
     assert differs["verdict"] == "differs" and differs["phone"]["outcome"] == "refuses" and differs["phone"]["permission"] == "com.mail.permission.COMPOSE"
     assert "Permission Denial: starting Intent" in differs["phone"]["err"]
@@ -340,47 +342,65 @@ def test_more_broadcasts_than_a_sender_may_have_alive(phone: StandIn) -> None:
     assert as_json(phone, *questions)["counts"]["agree"] == 70
 
 
-AM_WITH_RULES = """#!/usr/bin/python3 -S
-# An `am` that has two sets of rules: under those of android-12 no host is approved.
+AM_WITHOUT_RULES = """#!/usr/bin/python3 -S
+# An `am` that has one set of rules: it knows no such key.
 import os, sys, tempfile
 at = sys.argv.index("--device") + 1
-text = open(sys.argv[at], encoding="utf-8").read()
-rules = [line.partition("=")[2].strip() for line in text.splitlines() if line.startswith("rules =")] or ['"profile"']
-if rules[0] not in ('"profile"', '"android-12"'):
-    sys.exit(print("am: device refused: wrong_kind rules", file=sys.stderr) or 3)
-if rules[0] == '"android-12"':
-    sys.argv[at] = tempfile.mkstemp(dir=os.path.dirname(sys.argv[0]))[1]
-    open(sys.argv[at], "w", encoding="utf-8").write(text.partition("[[link]]")[0])
+lines = open(sys.argv[at], encoding="utf-8").read().splitlines()
+sys.argv[at] = tempfile.mkstemp(dir=os.path.dirname(sys.argv[0]))[1]
+open(sys.argv[at], "w", encoding="utf-8").write("\\n".join(it for it in lines if not it.startswith("rules =")))
 os.execv("AM", ["AM", *sys.argv[1:]])
 """
 
 
+def by_the_profile(folder: Path) -> Path:
+    """The device file that answers by the profile, as one without the key does."""
+    path = folder / "profile.toml"
+    path.write_text(DEVICE.read_text(encoding="utf-8").replace('rules = "android-12"\n', ""), encoding="utf-8")
+    return path
+
+
 def test_whether_the_other_rules_would_agree(tmp_path: Path) -> None:
-    am = tmp_path / "am"
-    am.write_text(AM_WITH_RULES.replace('"AM"', repr(str(find_am()))), encoding="utf-8")
-    am.chmod(0o755)
-    plants = {it.what: it for it in PLANTED}
-    link = question_of(f"pm resolve-activity -a {VIEW} -d https://www.photos.example/album")
-    with StandIn(plants["a host is approved for no app"].device(tmp_path)) as phone:
-        found = as_json(phone, link, am=am)["questions"][0]
-        text = compared(phone, [link], am=am)[1]
-    assert found["other_rules"] == {"rules": "android-12", "agrees": True, "outcome": "opens", "components": ["com.browser/com.browser.Page"]}
-    assert "\n    rules  android-12 would agree\n" in text
-    with StandIn(plants["another app is the default browser"].device(tmp_path)) as phone:
-        text = compared(phone, [question_of(f"pm resolve-activity -a {VIEW} -d https://any.example/")], am=am)[1]
-    assert "\n    rules  android-12 answers: opens com.browser/.Page\n" in text
-    # a device file that states its rules is asked under the others
-    stated = tmp_path / "stated.toml"
-    stated.write_text('rules = "android-12"\n' + DEVICE.read_text(encoding="utf-8"), encoding="utf-8")
+    plant = next(it for it in PLANTED if it.what == "another app is the default browser")
+    listed = question_of(f"pm query-activities -a {VIEW} -d https://any.example/")
     with StandIn(DEVICE) as phone:
-        found = as_json(phone, link, am=am, device=stated)
-    assert found["rules"] == "android-12" and found["questions"][0]["other_rules"]["rules"] == "profile" and found["questions"][0]["other_rules"]["agrees"]
+        # a phone narrows a list of activities for a web link, and the profile doesn't
+        found = as_json(phone, listed, device=by_the_profile(tmp_path))
+        text = compared(phone, [listed], device=by_the_profile(tmp_path))[1]
+        assert as_json(phone, listed)["counts"]["agree"] == 1
+    others = found["questions"][0]["other_rules"]
+    assert found["rules"] == "profile" and others == {"rules": "android-12", "agrees": True, "outcome": "lists", "components": ["com.browser/com.browser.Page"]}
+    assert "\n    rules  android-12 would agree\n" in text
+    with StandIn(plant.device(tmp_path)) as phone:
+        text = compared(phone, [question_of(f"pm resolve-activity -a {VIEW} -d https://any.example/")])[1]
+    assert "\n    rules  profile answers: opens com.browser/.Page\n" in text
+
+
+def test_an_am_without_other_rules(tmp_path: Path) -> None:
+    am = tmp_path / "am"
+    am.write_text(AM_WITHOUT_RULES.replace('"AM"', repr(str(find_am()))), encoding="utf-8")
+    am.chmod(0o755)
+    with StandIn(DEVICE) as phone:
+        text = compared(phone, [question_of(f"pm query-activities -a {VIEW} -d https://any.example/")], am=am)[1]
+    assert "\n    rules  this `am` has no other rules\n" in text
+
+
+def test_a_tie_that_is_left_out_as_a_whole_opens_nothing(tmp_path: Path) -> None:
+    shut = "exported = false\nintent-filter = [{ action = [\"x.A\"], category = [\"android.intent.category.DEFAULT\"] }]\n"
+    text = 'rules = "android-12"\nsystem_key = "k"\n[[package]]\nkey = "a"\n[package.manifest]\npackage = "com.a"\n'
+    one, two = (f'[[package.manifest.activity]]\nname = ".{it}"\n{shut}' for it in "AB")
+    asked = start("-a", "x.A")
+    for components, outcome in ((one, Outcome("refuses", ("com.a/com.a.A",), "not_exported")), (one + two, Outcome("nothing"))):
+        path = tmp_path / "device.toml"
+        path.write_text(text + components, encoding="utf-8")
+        with Device.open(path) as device:
+            assert Simulated(device).ask(asked) == outcome
 
 
 def test_the_rules_are_the_profile_s() -> None:
     profile = (TOP / "docs" / "PROFILE.md").read_text(encoding="utf-8")
     parts = {part.partition("\n")[0].partition(" (`")[0]: part for part in profile.split("\n## ")[1:]}
-    for rule in {*BY_VERDICT.values(), *BY_REASON.values(), OFFERS}:
+    for rule in {*BY_VERDICT.values(), *BY_REASON.values(), OFFERS, FINDING}:
         assert f"\n- **{rule.name}" in parts[rule.heading], rule
 
 

@@ -13,6 +13,7 @@ from typing import Any
 import pytest
 
 from amctl import Device
+from amctl.asserts import opened
 from amctl.errors import BadWords
 from amctl.phone import lines
 from amctl.phone.adb import Adb, NoPhone, Said, find_adb, program
@@ -185,7 +186,28 @@ def test_what_is_approved_by_a_wildcard_is_said(built: Mapping[str, Sequence[Pat
     file.write_text(DEVICE.read_text(encoding="utf-8") + '\n[[link]]\npackage = "com.photos"\nhost = "pictures.example"\n', encoding="utf-8")
     with StandIn(file, built, SETTINGS) as phone:
         text = read(phone, tmp_path / "kept")[1]
-    assert "\n# it is approved for all hosts of *.pictures.example; a device file approves exact hosts alone" in text
+    assert "\n# the phone says that it is approved for pictures.example, which its filters have as *.pictures.example: both are written.\n" in text
+    hosts = [it["host"] for it in tomllib.loads(text)["link"] if it["package"] == "com.photos"]
+    assert hosts == ["www.photos.example", "pictures.example", "*.pictures.example"]
+
+
+def test_a_wildcard_that_the_phone_names_is_written_once(built: Mapping[str, Sequence[Path]], tmp_path: Path) -> None:
+    file = tmp_path / "device.toml"
+    file.write_text(DEVICE.read_text(encoding="utf-8") + '\n[[link]]\npackage = "com.photos"\nhost = "*.pictures.example"\n', encoding="utf-8")
+    with StandIn(file, built, SETTINGS) as phone:
+        text = read(phone, tmp_path / "kept")[1]
+    assert without_keys(text) == without_keys(file.read_text(encoding="utf-8"))
+    taken = tmp_path / "taken.toml"
+    taken.write_text(text, encoding="utf-8")
+    with Device.open(taken) as device:
+        opened(device.app("com.browser"), "https://my.pictures.example:8443/start", "com.photos/.Album")
+
+
+def test_the_file_answers_by_a_phone_s_rules(phone: StandIn, tmp_path: Path) -> None:
+    text = read(phone, tmp_path / "kept")[1]
+    assert tomllib.loads(text)["rules"] == "android-12"
+    # a key of the device stands above all tables
+    assert text.index('rules = "android-12"') < text.index("system_key = ") < text.index("[[package]]")
 
 
 def test_a_folder_of_others_is_left_alone(phone: StandIn, tmp_path: Path) -> None:

@@ -43,6 +43,15 @@ def data(row: str, **others: str) -> str:
     return filtered(f'action = ["x.A"], data = [{row}]', **others)
 
 
+PHONE = 'rules = "android-12"'
+
+
+def linked(host: str, approved: str, top: str = "") -> str:
+    """A device whose package views links of a host, and is approved for another."""
+    end = f'[[link]]\npackage = "com.one"\nhost = "{approved}"'
+    return filtered(f'action = ["{VIEW}"], category = ["{DEFAULT}", "{BROWSABLE}"], data = [{{ scheme = "https", host = "{host}" }}]', top=top, end=end)
+
+
 GUARD = '[[package]]\nkey = "k2"\nmanifest = { package = "com.two" }\n'
 READER = '[[grant]]\npackage = "com.two"\npermission = "one.READ"\n'
 WEB = f'action = ["{VIEW}"], category = ["{DEFAULT}", "{BROWSABLE}"]'
@@ -60,6 +69,26 @@ CASES = [
     ("unknown-key", device('launchMode = "singleTop"', kind="service"), 9, "counts for activities alone", device('launchMode = "singleTop"')),
     ("unknown-key", device(end='[[grant]]\npackage = "com.one"\npermission = "android.x"\nheld = true'), 11, "isn't a key of a grant", device()),
     ("unknown-key", device(manifest='\nqueries = { packages = ["a.B"] }'), 7, "write `package`", device(manifest='\nqueries = { package = ["a.B"] }')),
+    ("unknown-key", device(top='rule = "profile"'), 2, "write `rules`", device(top='rules = "profile"')),
+    ("refused", device(top='rules = "android-13"'), 2, 'write "profile" or "android-12"', device(top='rules = "android-12"')),
+    ("spelling", device(top='rules = "Android12"'), 2, 'did you mean "android-12"?', device(top='rules = "android-12"')),
+    ("spelling", device(top='rules = "profil"'), 2, 'did you mean "profile"?', device(top='rules = "profile"')),
+    ("spelling", device(top='rules = "phone"'), 2, 'write "profile" or "android-12"', device(top='rules = "android-12"')),
+    (
+        "no-effect",
+        linked("*.a.example", "www.a.example", top=PHONE),
+        13,
+        'so the approval counts for nothing: did you mean "*.a.example"?',
+        linked("*.a.example", "*.a.example", top=PHONE),
+    ),
+    ("no-effect", linked("a.example", "b.test", top=PHONE), 13, "add the host to a filter", linked("*.a.example", "www.a.example")),
+    (
+        "no-effect",
+        filtered(f'{WEB}, data = [{{ scheme = "https", host = "a.example" }}]', top=f'{PHONE}\nbrowser = "com.one"'),
+        3,
+        "no activity of com.one is a browser",
+        filtered(f'{WEB}, data = [{{ scheme = "https" }}]', top=f'{PHONE}\nbrowser = "com.one"'),
+    ),
     ("host", data('{ scheme = "https", host = "https://a.example/x" }'), 10, 'write "a.example"', data('{ scheme = "https", host = "a.example" }')),
     ("host", data('{ scheme = "https", host = "a.example/x" }'), 10, "has a path", data('{ scheme = "https", host = "a.example", path = "/x" }')),
     ("host", data('{ scheme = "https", host = "a.example:80" }'), 10, "has a port", data('{ scheme = "https", host = "a.example", port = 80 }')),

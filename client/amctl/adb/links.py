@@ -12,6 +12,7 @@ from amctl.adb.phone import Phone
 from amctl.android import BROWSABLE, WEB_SCHEMES
 from amctl.device import Refusal
 from amctl.intents import VIEW
+from amctl.weblinks import declared_hosts
 
 # Android knows ways to be approved and not to be; `am` only has the two
 STATES = {
@@ -63,7 +64,7 @@ class SetAppLinks:
         found = find(phone, self.package)
         if found is None:
             raise Failed(f"Package not found: {self.package}")
-        return states_of(found)
+        return states_of(found, answers_as_phone=phone.device.file.answers_as_phone)
 
 
 @dataclass(frozen=True)
@@ -85,15 +86,16 @@ class GetAppLinks:
         if self.package is not None and not found:
             raise Failed(f"Package not found: {self.package}")
         for package in found:
-            hosts = states_of(package)
+            hosts = states_of(package, answers_as_phone=phone.device.file.answers_as_phone)
             if hosts or self.package is not None:
                 _say(package, hosts, console)
         return 0
 
 
-def states_of(package: Installed) -> tuple[str, ...]:
-    """The hosts that the package's web filters list or that it is approved for."""
-    return tuple(dict.fromkeys((*_declared(package), *sorted(package.hosts))))
+def states_of(package: Installed, *, answers_as_phone: bool) -> tuple[str, ...]:
+    """The hosts that the package's web filters list or that it is approved for. By a phone's rules a wildcard is approved as it is."""
+    declared = (it for it in declared_hosts(package.components) if it.strip("*")) if answers_as_phone else _declared(package)
+    return tuple(dict.fromkeys((*declared, *sorted(package.hosts))))
 
 
 def _say(package: Installed, hosts: tuple[str, ...], console: Console) -> None:

@@ -61,9 +61,10 @@ class Outcome:
         tied = tuple(str(it.to) for it in exchange.accounts if it.verdict == "tied")
         if tied:
             return cls("asks", tied)
-        # who isn't outranked and shares its rank with none is the target, whatever its gate says
+        # who isn't outranked and shares its rank with none is the target, whatever its gate says; several that share it and
+        # refuse their caller are left out by a phone's rules, and nothing opens
         gated = tuple(str(it.to) for it in exchange.accounts if it.verdict in GATES)
-        return cls("opens", exchange.reached) if exchange.reached else cls("refuses", gated) if gated else cls("nothing")
+        return cls("opens", exchange.reached) if exchange.reached else cls("refuses", gated) if len(gated) == 1 else cls("nothing")
 
 
 class Copies:
@@ -71,6 +72,7 @@ class Copies:
 
     def __init__(self, path: Path, am: Path | None, caller: str, most_asked: int = MOST_ASKED) -> None:
         self.caller = caller
+        self.answers_as_phone = DeviceFile.read(path).answers_as_phone
         self._path, self._am, self._most_asked = path, am, most_asked
         self._devices: dict[State, Device] = {}
         self._asked = dict.fromkeys(STATES, 0)

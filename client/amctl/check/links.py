@@ -4,7 +4,7 @@ from collections.abc import Iterator, Sequence
 from amctl import words, words_check
 from amctl.check.app import App
 from amctl.check.assetlinks import Statements
-from amctl.check.asking import Copies, Outcome
+from amctl.check.asking import Copies, Exchange, Outcome
 from amctl.findings.finding import Finding
 from amctl.check.intents import WEB, Question
 from amctl.check.made import at
@@ -65,7 +65,7 @@ def _said(copies: Copies, app: App, links: Sequence[Question], statements: State
     # with statements it is known which hosts would be approved; without them all are taken to be
     unapproved = unsaid | unasked if statements else set()
     for host in hosts_of(links):
-        copies.approve(app.package, host, approved=host not in unapproved)
+        _approve(copies, app, links, host, approved=host not in unapproved)
         for question in (it for it in links if _host(it) == host):
             about, path = words.intent(question.intent), question.filter.at
             if host in unsaid:
@@ -73,17 +73,33 @@ def _said(copies: Copies, app: App, links: Sequence[Question], statements: State
             if host in unasked:
                 yield question.intent, at(app, path, "link-unverified", about, words_check.link_unverified(host))
             yield question.intent, _compared(copies, app, question)
-        copies.approve(app.package, host, approved=False)
+        _approve(copies, app, links, host, approved=False)
+
+
+def _approve(copies: Copies, app: App, links: Sequence[Question], host: str, *, approved: bool) -> None:
+    """Approves the app for a host, or withdraws that. A phone asks for the host as the app's filters have it."""
+    for it in (host, *_wildcards(links, host)) if copies.answers_as_phone else (host,):
+        copies.approve(app.package, it, approved=approved)
 
 
 def _compared(copies: Copies, app: App, question: Question) -> Finding:
     """Whom the link opens as it is, and once the app is approved for its host."""
     now, approved = copies.ask("after", "activity", question.intent), copies.ask("approved", "activity", question.intent)
     soon, later = Outcome.of(now), Outcome.of(approved)
-    first, last = (words_check.says_outcome(it.way, it.components) for it in (soon, later))
-    why = why_not(approved, soon.components[0]) if soon.way == "opens" and soon != later else ""
-    message = words_check.link(first, last, why)
-    return at(app, question.filter.at, _rule(app, later), words.intent(question.intent), message, now, approved)
+    why = why_not(copies, approved, soon.components[0]) if soon.way == "opens" and soon != later else ""
+    rule = _rule(app, later)
+    if rule == "link" and _was_others(copies, app, now, soon):
+        rule, message = "taken", words_check.link_taken(soon.components[0], later.components[0], why)
+    else:
+        first, last = (words_check.says_outcome(it.way, it.components) for it in (soon, later))
+        message = words_check.link(first, last, why)
+    return at(app, question.filter.at, rule, words.intent(question.intent), message, now, approved)
+
+
+def _was_others(copies: Copies, app: App, now: Exchange, soon: Outcome) -> bool:
+    """Whether a phone opens another app that is approved for the link: then this one takes it, as the one installed last."""
+    of_app = [it for it in now.accounts if str(it.to).startswith(f"{app.package}/")]
+    return copies.answers_as_phone and soon.way == "opens" and any(it.by == "approved" for it in of_app)
 
 
 def _rule(app: App, later: Outcome) -> str:

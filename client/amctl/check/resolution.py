@@ -63,7 +63,10 @@ def _activity(copies: Copies, app: App, question: Question) -> Finding | None:
     if old == new:
         return None
     system = copies.as_system(after)
-    rule, message = _said(old, new, after, _of_system(new, system))
+    said = _said(old, new, _why_not(copies, after, old), _of_system(new, system))
+    if said is None:
+        return None
+    rule, message = said
     return at(app, _path(app, question, new), rule, words.intent(question.intent), message, before, after, system)
 
 
@@ -73,23 +76,27 @@ def _of_system(new: Outcome, exchange: Exchange | None) -> str:
     return words_check.system_opens(found.components[0]) if found != new and found.way == "opens" else ""
 
 
-def _said(old: Outcome, new: Outcome, after: Exchange, system: str) -> tuple[str, str]:
-    """The rule and the sentence of a change."""
+def _said(old: Outcome, new: Outcome, why: str, system: str) -> tuple[str, str] | None:
+    """The rule and the sentence of a change, if there is something to say."""
     if old.way == "opens":
-        return _was_opened(old.components[0], new, after, system)
+        return _was_opened(old.components[0], new, why, system)
     if old.way == "asks":
         if new.way == "asks":
             return "one-more", words_check.one_more(old.components, new.components)
+        if new.way == "nothing":
+            return "refused", words_check.shut_all(old.components, "")
         return ("refused" if new.way == "refuses" else "taken"), words_check.choice_ends(old.components, new.components[0])
     if new.way == "asks":
         return "opens", words_check.opens_many(new.components)
     if new.way == "refuses":
         return "opens", words_check.shut(new.components[0], system)
-    return "opens", words_check.opens(new.components[0])
+    # what refused its caller, and now ties with others that do, opens for nobody more or less
+    return None if new.way == "nothing" else ("opens", words_check.opens(new.components[0]))
 
 
-def _was_opened(old: str, new: Outcome, after: Exchange, system: str) -> tuple[str, str]:
-    why = why_not(after, old)
+def _was_opened(old: str, new: Outcome, why: str, system: str) -> tuple[str, str]:
+    if new.way == "nothing":
+        return "refused", words_check.shut_all((old,), why)
     if new.way == "asks":
         return "asks", words_check.asks(old, new.components, why)
     if new.way == "refuses":
@@ -97,11 +104,16 @@ def _was_opened(old: str, new: Outcome, after: Exchange, system: str) -> tuple[s
     return "taken", words_check.taken(old, new.components[0], why, system)
 
 
-def why_not(after: Exchange, component: str) -> str:
+def _why_not(copies: Copies, after: Exchange, old: Outcome) -> str:
+    """The rule by which what opened the intent alone no longer does."""
+    return why_not(copies, after, old.components[0]) if old.way == "opens" else ""
+
+
+def why_not(copies: Copies, after: Exchange, component: str) -> str:
     """The rule by which a component no longer opens the intent."""
     account = after.account(component)
     rule = (account.by or account.verdict) if account else ""
-    return words_check.WHY.get(rule, rule)
+    return words_check.why(rule, answers_as_phone=copies.answers_as_phone)
 
 
 def _path(app: App, question: Question, new: Outcome) -> str:

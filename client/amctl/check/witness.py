@@ -45,11 +45,19 @@ def pattern_path(pattern: str) -> str:
             char = pattern[at]
             at += 1
         elif char == ".":
-            char = "a"
+            char = _any_of_pattern(pattern, at)
         path += char
         # what `*` repeats is there once; with nothing before it, it is literal
         at += 1 if at < len(pattern) and pattern[at] == "*" else 0
     return path
+
+
+def _any_of_pattern(pattern: str, at: int) -> str:
+    """What stands for a dot that ends here. For `.*` a phone goes to the first character like the next one, and never back."""
+    if pattern[: at - 1].endswith(".*"):
+        return "."
+    after = pattern[at + 1 :].removeprefix("\\") if pattern[at : at + 1] == "*" else ""
+    return "b" if after.startswith("a") else "a"
 
 
 def types_of(mime: str, others: Iterable[str]) -> tuple[str, ...]:

@@ -12,8 +12,8 @@ from amctl.compare.lines import line_of
 from amctl.compare.phone import Answer, Phone
 from amctl.compare.question import SHELL, Question
 from amctl.compare.report import ABSENT, LISTED, Compared, Other, Report, write_json, write_text
-from amctl.compare.rules import rules_of as profile_rules_of
-from amctl.compare.simulated import OTHER, Simulated, rules_of, under_other_rules
+from amctl.compare.rules import rules_of
+from amctl.compare.simulated import OTHER, Simulated, under_other_rules
 from amctl.compare.suite import read_suite
 from amctl.device import Device, Refusal
 from amctl.devicefile import SYSTEM, DeviceFile
@@ -93,7 +93,7 @@ def compare(
         both = _Both(Phone(adb, lambda package: print(words_compare.stopped(package), file=err, flush=True)), Simulated(device), other)
         both.stop_what_is_stopped(questions)
         compared = tuple(both.ask(it) for it in questions)
-        report = Report(asked.name, file.path, serial, level, rules_of(file), other is not None, compared, tuple(both.phone.stopped))
+        report = Report(asked.name, file.path, serial, level, file.rules, other is not None, compared, tuple(both.phone.stopped))
     {"text": write_text, "json": write_json, "junit": junit.write}[asked.form](report, out)
     if report.counts["unasked"] == len(compared):
         print(f"amctl: {words_compare.NOTHING_ASKED}", file=err)
@@ -146,8 +146,8 @@ class _Both:
         accounts = tuple(said.get(it, Account(it, ABSENT)) for it in am.apart(phone))
         other = None
         if self.other is not None:
-            other = Other(OTHER[rules_of(self.am.device.file)], self.other.ask(question))
+            other = Other(OTHER[self.am.device.file.rules], self.other.ask(question))
         caller = question.caller or SHELL if question.changes else SYSTEM
         about = About(caller, question.kind, question.intent, self.am.device.file)
-        rules = profile_rules_of(accounts, question.kind, phone.rule)
+        rules = rules_of(accounts, question.kind, question.intent, phone.rule)
         return replace(compared, accounts=accounts, rules=rules, other=other, about=about)

@@ -3,7 +3,9 @@ from collections.abc import Iterable, Mapping
 from dataclasses import dataclass
 
 from amctl.devicefile import Kind
+from amctl.intents import Intent
 from amctl.results import Account
+from amctl.words_reasons import is_unfound
 
 
 @dataclass(frozen=True)
@@ -18,6 +20,7 @@ class Rule:
 
 
 CANDIDATES = Rule("Which components an intent finds", "Candidates.")
+FINDING = Rule("Which components an intent finds", "Finding")
 TARGET = Rule("Which activity a start reaches", "Target.")
 NARROWING = Rule("Which activity a start reaches", "Narrowing")
 GATE = Rule("Gates", "Verdict.")
@@ -53,12 +56,13 @@ BY_REASON: Mapping[str, Rule] = {
 }
 
 
-def rules_of(accounts: Iterable[Account], kind: Kind, refused_by: str | None = None) -> tuple[Rule, ...]:
+def rules_of(accounts: Iterable[Account], kind: Kind, intent: Intent, refused_by: str | None = None) -> tuple[Rule, ...]:
     """The rules that these accounts come from, each once, and behind them the one by which a phone refuses."""
     found: list[Rule] = []
     for account in accounts:
         if account.verdict == "filters":
-            found += [BY_REASON[it] for it in account.reasons or () if it in BY_REASON] or [CANDIDATES]
+            reasons = [it for it in account.reasons or () if it in BY_REASON]
+            found += [FINDING if is_unfound(it, intent) else BY_REASON[it] for it in reasons] or [CANDIDATES]
         elif account.verdict == "reached":
             found.append(OFFERS if kind == "receiver" else TARGET)
         elif account.verdict in BY_VERDICT:

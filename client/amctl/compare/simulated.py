@@ -7,12 +7,11 @@ from pathlib import Path
 
 from amctl.compare.question import SHELL, Outcome, Question
 from amctl.device import Device, Refusal
-from amctl.devicefile import SYSTEM, DeviceFile
+from amctl.devicefile import ANDROID_12, PROFILE, SYSTEM, DeviceFile
 from amctl.errors import DeviceFault
 from amctl.results import Account
 
 RULES = "rules"
-PROFILE, ANDROID_12 = "profile", "android-12"
 OTHER = {PROFILE: ANDROID_12, ANDROID_12: PROFILE}
 STATED = re.compile(r"^\s*rules\s*=.*$", re.MULTILINE)
 # no rules have this name
@@ -68,13 +67,9 @@ def _outcome(accounts: tuple[Account, ...]) -> Outcome:
         return Outcome("chooses", tied)
     if reached:
         return Outcome("opens", reached)
-    gated = next((it for it in accounts if it.verdict in GATES), None)
-    return Outcome("nothing") if gated is None else Outcome("refuses", (str(gated.to),), gated.verdict, gated.name)
-
-
-def rules_of(file: DeviceFile) -> str:
-    stated = file.document.get(RULES)
-    return stated if isinstance(stated, str) else PROFILE
+    gated = [it for it in accounts if it.verdict in GATES]
+    # a target refuses its caller; several are a tie that is left out as a whole by a phone's rules, and nothing opens
+    return Outcome("refuses", (str(gated[0].to),), gated[0].verdict, gated[0].name) if len(gated) == 1 else Outcome("nothing")
 
 
 @contextmanager
@@ -86,7 +81,7 @@ def under_other_rules(file: DeviceFile, am: Path | None) -> Iterator[Simulated |
             yield None
             return
         # a key that stands before all tables is the device's own
-        other.write_text(f'{RULES} = "{OTHER[rules_of(file)]}"\n{STATED.sub("", file.text, 1)}', encoding="utf-8")
+        other.write_text(f'{RULES} = "{OTHER[file.rules]}"\n{STATED.sub("", file.text, 1)}', encoding="utf-8")
         with Device.open(other, am=am) as device:
             yield Simulated(device)
 

@@ -16,7 +16,7 @@ COMPONENT = ("name", "exported", "enabled", "permission", "intent-filter")
 ACTIVITY_ALONE = ("launchMode", "taskAffinity")
 # each table's name in sentences, its keys, and the tables in it
 KEYS: Mapping[str, tuple[str, ...]] = {
-    "the device": ("system_key", "root_key", "browser", "protected", "exempt", "package", "grant", "link"),
+    "the device": ("rules", "system_key", "root_key", "browser", "protected", "exempt", "package", "grant", "link"),
     "a package": ("key", "manifest"),
     "a grant": ("package", "permission"),
     "a link": ("package", "host"),

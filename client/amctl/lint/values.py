@@ -5,11 +5,12 @@ from typing import Any
 
 from amctl import words_lint
 from amctl.android import BROWSABLE, DEFAULT, WEB_SCHEMES
-from amctl.devicefile import Component, DeviceFile, Filter, Link, Package
+from amctl.devicefile import RULES, Component, DeviceFile, Filter, Link, Package
 from amctl.findings.finding import Finding
 from amctl.intents import VIEW
 from amctl.lint.finding import finding
 from amctl.lint.names import ACTIONS, CATEGORIES, meant, mode_meant, near_name
+from amctl.weblinks import covers, declared_hosts, makes_browser
 
 PATHS = ("path", "pathPrefix", "pathSuffix", "pathPattern")
 
@@ -24,6 +25,21 @@ def check(file: DeviceFile) -> Iterator[Finding]:
     for link in file.links:
         yield from _link(file, link)
     yield from _browser(file)
+    yield from _rules(file)
+
+
+def _rules(file: DeviceFile) -> Iterator[Finding]:
+    if file.rules not in RULES:
+        yield finding(file, "rules", "spelling", words_lint.no_such_rules(file.rules, _rules_meant(file.rules)))
+
+
+def _rules_meant(value: str) -> str | None:
+    """The rules that were meant by a name that isn't theirs: by its case, by a part of it, or by what is most like it."""
+    plain = "".join(it for it in value.lower() if it.isalnum())
+    plains = {"".join(it for it in name if it.isalnum()): name for name in RULES}
+    part = next((name for it, name in plains.items() if plain and (plain in it or it in plain)), None)
+    near = difflib.get_close_matches(plain, plains, 1, 0.6)
+    return part or (plains[near[0]] if near else None)
 
 
 def _component(file: DeviceFile, component: Component) -> Iterator[Finding]:
@@ -142,10 +158,21 @@ def _link(file: DeviceFile, link: Link) -> Iterator[Finding]:
     package = file.package(link.package)
     if package is None or not link.host:
         return
+    if file.answers_as_phone:
+        yield from _link_of_phone(file, link, package)
+        return
     hosts = [hosts for component in package.components if component.kind == "activity" for hosts in _web_hosts(component)]
     if not any(not listed or any(_takes(it, link.host.lower()) for it in listed) for listed in hosts):
         near = difflib.get_close_matches(link.host.lower(), [it for listed in hosts for it in listed], 1, 0.7)
         yield finding(file, at, "no-effect", words_lint.link_unlisted(link.package, link.host, near[0] if near else None))
+
+
+def _link_of_phone(file: DeviceFile, link: Link, package: Package) -> Iterator[Finding]:
+    """A phone asks that the manifest has the host as it is approved."""
+    declared = declared_hosts(package.components)
+    if link.host.lower() not in declared:
+        near = next((it for it in declared if covers(it, link.host)), None) or next(iter(difflib.get_close_matches(link.host.lower(), declared, 1, 0.7)), None)
+        yield finding(file, f"{link.at}.host", "no-effect", words_lint.link_undeclared(link.package, link.host, near))
 
 
 def _web_hosts(component: Component) -> Iterator[tuple[str, ...]]:
@@ -160,8 +187,16 @@ def _takes(listed: str, host: str) -> bool:
 
 
 def _browser(file: DeviceFile) -> Iterator[Finding]:
+    if file.browser is None:
+        return
+    package = file.package(file.browser)
     # a browser that isn't installed is allowed, a misspelt one isn't meant
-    if file.browser is not None and file.package(file.browser) is None:
-        near = near_name(file.browser, file.names)
-        if near:
-            yield finding(file, "browser", "spelling", words_lint.no_such_browser(file.browser, near))
+    near = near_name(file.browser, file.names) if package is None else None
+    if near:
+        yield finding(file, "browser", "spelling", words_lint.no_such_browser(file.browser, near))
+    if package is not None and file.answers_as_phone and not _is_browser(package):
+        yield finding(file, "browser", "no-effect", words_lint.no_browser(file.browser))
+
+
+def _is_browser(package: Package) -> bool:
+    return any(makes_browser(it) for component in package.components if component.kind == "activity" for it in component.filters)

@@ -112,8 +112,9 @@ def learn(adb: Adb, kept: Kept, package: Listed, disabled: frozenset[str] | None
         return Learnt(package.name, said=(words_phone.not_read(package.name, str(why)),))
     declared.grants = list(state.granted) if state else []
     hosts = links.hosts if links and links.is_allowed else ()
-    said = [*_unlearnt(state, links, disabled), *_unsaid(declared, state, links), *(_line(it.place, it.words, package.name) for it in report.told)]
-    return Learnt(package.name, declared, hosts, tuple(said))
+    wild = _wildcards(declared, hosts)
+    said = [*_unlearnt(state, links, disabled), *_unsaid(state, links, wild), *(_line(it.place, it.words, package.name) for it in report.told)]
+    return Learnt(package.name, declared, (*hosts, *wild), tuple(said))
 
 
 def _line(place: str, words: str, package: str) -> str:
@@ -150,16 +151,18 @@ def _unlearnt(state: State | None, links: Links | None, disabled: frozenset[str]
         yield words_phone.NO_DISABLED
 
 
-def _unsaid(declared: Package, state: State | None, links: Links | None) -> Iterable[str]:
-    """What the phone told and a device file can't say."""
+def _unsaid(state: State | None, links: Links | None, wild: Sequence[str]) -> Iterable[str]:
+    """What the phone told and a device file can't say, or says otherwise."""
     if state and state.is_stopped:
         yield words_phone.STOPPED
     if state and state.is_hidden:
         yield words_phone.HIDDEN
     if links and links.hosts and not links.is_allowed:
         yield words_phone.UNLINKED
-    hosts = links.hosts if links and links.is_allowed else ()
-    wild = {row["host"] for it in declared.components for filter in it.filters for row in filter.rows if row.get("host", "").startswith("*.")}
-    for host in sorted(wild):
-        if host.removeprefix("*.").lower() in hosts:
-            yield words_phone.wildcard(host)
+    yield from map(words_phone.wildcard, wild)
+
+
+def _wildcards(declared: Package, hosts: Sequence[str]) -> tuple[str, ...]:
+    """The wildcards of its filters that the phone names by the domain below alone: an approval counts as a filter has its host."""
+    of_filters = {row.get("host", "").lower() for it in declared.components for filter in it.filters for row in filter.rows}
+    return tuple(sorted(it for it in of_filters if it.startswith("*.") and it not in hosts and it.removeprefix("*.") in hosts))

@@ -12,6 +12,7 @@ from amctl.apps.manifests import GRANT_LIMIT
 from amctl.apps.sayable import Unsayable
 from amctl.apps.told import Place, Report, shown
 from amctl.apps.toml import ended, package_text, pairs
+from amctl.devicefile import ANDROID_12
 from amctl.phone.asked import Learnt, Whole
 
 LINK_LIMIT = 256
@@ -58,7 +59,8 @@ def _head(whole: Whole) -> str:
     protected = (whole.protected or [])[:PROTECTED_LIMIT]
     dropped = len(whole.protected or []) - len(protected)
     lines = comments(words_phone.head(whole.serial, whole.release, whole.level))
-    lines += ["", *pairs(system_key=draw_key())]
+    # who reads a phone wants a phone's answers
+    lines += ["", *pairs(rules=ANDROID_12, system_key=draw_key())]
     lines += [*_said(whole, "browser"), *pairs(browser=whole.browser)]
     lines += [*_said(whole, "protected"), *(comments([words_phone.too_many_protected(dropped)]) if dropped else []), *pairs(protected=protected)]
     return ended([*lines, *_said(whole, "exempt")])

@@ -12,6 +12,8 @@ from amctl.intents import Extra, Intent
 from amctl.near import BEFORE_FILTERS, MOST, NO_FILTER, REACHED, nearest, reason_of
 from amctl.options import LONG, TRUTHS, WHOLE
 from amctl.results import Account
+from amctl.weblinks import approvals_for
+from amctl.words_reasons import is_unfound
 
 # what the rules let come furthest is on top; what isn't here comes after all
 ORDER = (
@@ -126,14 +128,18 @@ def _deciding(found: Sequence[Account], about: words.About) -> list[Account]:
     reached, missed = ([it for it in near.accounts if (it.verdict in REACHED) == is_reached] for is_reached in (True, False))
     if near.rest:
         # on a device of many apps what asks for something else altogether tells nothing, unless there is nothing else
-        missed = [it for it in missed if reason_of(it) not in FAR] or ([] if reached else missed)
+        missed = [it for it in missed if not _is_far(reason_of(it, about.intent), about.intent)] or ([] if reached else missed)
     return [*reached[:MOST], *sorted(missed, key=lambda it: ORDER.index(it.verdict) if it.verdict in ORDER else len(ORDER))]
 
 
+def _is_far(why: str, intent: Intent) -> bool:
+    return why in FAR and not is_unfound(why, intent)
+
+
 def _groups(others: Sequence[Account], about: words.About) -> list[dict[str, Any]]:
-    counts = Counter(map(reason_of, others)).most_common()
+    counts = Counter(reason_of(it, about.intent) for it in others).most_common()
     return [
-        {"label": words_ui.group_line(count, why, about.kind), "accounts": [_row(it, about) for it in others if reason_of(it) == why]}
+        {"label": words_ui.group_line(count, why, about), "accounts": [_row(it, about) for it in others if reason_of(it, about.intent) == why]}
         for why, count in counts
     ]
 
@@ -154,9 +160,17 @@ def changes_of(found: Account, about: words.About) -> tuple[Change, ...]:
     """What the page can try for a component on a copy of the device."""
     package = str(found.to).partition("/")[0]
     if found.verdict == "narrowed" and about.host:
-        return (Change("link", package, about.host),)
+        return tuple(Change("link", package, it) for it in _approvals(found, package, about)[:1])
     if found.verdict == "needs_permission" and found.name and about.caller not in (SYSTEM, ROOT):
         return (Change("grant", about.caller, found.name),)
     if found.verdict == "receiver_lacks" and found.name and isinstance(found.to, str):
         return (Change("grant", package, found.name),)
     return ()
+
+
+def _approvals(found: Account, package: str, about: words.About) -> Sequence[str]:
+    """The hosts by whose approval the app may get the link; a phone asks that its manifest has them."""
+    if not about.file.answers_as_phone:
+        return (about.host,)
+    of_file = about.file.package(package)
+    return approvals_for(of_file.components, about.host) if of_file and found.by != "browser" else ()

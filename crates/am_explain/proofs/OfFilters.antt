@@ -122,7 +122,7 @@ found_other Android12 board asked owner decl finding =
   where
     left_out_other : (narrowing : Option Narrowing) (next : Standing) → IsOther next
         → IsOther (unless_left_out narrowing next)
-    left_out_other None next other = other
+    left_out_other None next other rs e = other rs e
     left_out_other (Some narrowing) next other rs e = cc
 
     plain_other : (outranked tied : Bool) (rule : Option Rule)

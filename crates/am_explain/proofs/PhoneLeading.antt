@@ -18,6 +18,7 @@ use Rattle.am_model.proofs.Parts.{IsPart-filter}
 use Rattle.am_model.proofs.PriorityLaws.{IsFalling, falling_part, left_fall, of_hit}
 use Rattle.am_links.specs.Led.{led_by}
 use Rattle.am_links.specs.declared.leading.Leading.{Leading}
+use Rattle.am_explain.specs.declared.contest.PhoneLeaders.{PhoneLeaders}
 use Rattle.am_explain.specs.Contests.{IsPhoneLed, contenders, is_below, leader, priority_of_hit}
 use Rattle.am_explain.proofs.Leading.{leader_of_top, outranked_by_first}
 
@@ -45,15 +46,20 @@ contenders_fall board caller left falls = by (is_choice (choice (top left)))
         falls
     by false = falls
 
+-- what a phone's start shows, by what decides, by whether several share the greatest priority, and by what is reached
+abbrev pub shown_by : Option Leading → Bool → Target → PhoneLeaders
+shown_by leading contested reached = record {
+  leading = leading;
+  contested = contested;
+  greatest = priority_of_hit (leader reached);
+  tied = is_choice reached;
+}
+
 -- what is found of a phone's start decides
 pub phone_led : (board : Board) (caller : ℕ) (intent : Intent) (leading : Option Leading)
     → option_map led_by leading ≡ leading_of board intent true (found_by Android12 board.packages Activity intent true)
-    → IsPhoneLed board caller intent (record {
-      leading = leading;
-      contested = is_choice (choice (top (phone_left board intent true)));
-      greatest = priority_of_hit (leader (phone_choice board caller (phone_left board intent true)));
-      tied = is_choice (phone_choice board caller (phone_left board intent true));
-    })
+    → IsPhoneLed board caller intent (shown_by leading (is_choice (choice (top (phone_left board intent true))))
+    (phone_choice board caller (phone_left board intent true)))
 phone_led board caller intent leading is =
     let left = phone_left board intent true in
     let chosen = choice_of_contenders board caller left in

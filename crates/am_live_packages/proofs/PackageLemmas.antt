@@ -169,7 +169,7 @@ module _ (state : State) (caller : ℕ) (admin : is_privileged caller ≡ true) 
               (λ (p : Package). p.uid < state.next_uid) state.board.packages sound.packages.below);
           installed = are_installed (record (with_package state (installed state manifest key))
               { next_uid = state.next_uid + 1 }) ((sound_after state sound caller (asks.Install text key)).installed
-              text key manifest is free.0 free.1 room);
+              text key manifest refl admin is free.0 free.1 room);
         }
       where
         not_last : (state.next_uid == no_uid) ≡ false → state.next_uid < no_uid

@@ -4,7 +4,7 @@ mod rows;
 
 use self::rows::{PATHS, URIS};
 use am_trials_words::{parts, try_answers, try_each};
-use am_types::{Glob, PathRule, Text, Uri};
+use am_types::{Glob, PathRule, Rules, Text, Uri};
 use am_uri::{parse_uri, passes_path};
 use std::alloc::{AllocError, Global};
 use std::test::Fail;
@@ -86,7 +86,7 @@ fn rule(alloc: Global, word: &str) -> Result<PathRule, Fail> {
 fn passing(alloc: Global, word: &str, path: &str) -> Result<&'static str, Fail> {
     let path = Text::of(alloc, path)?;
     let rule = rule(alloc, word)?;
-    let passes = passes_path(&rule, &path);
+    let passes = passes_path(Rules::Profile, &rule, &path);
     drop(rule);
     Ok(if passes { "passes" } else { "fails" })
 }

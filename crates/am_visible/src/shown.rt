@@ -11,9 +11,8 @@ use am_types::{Hit, Intent, Kind, List, NoMemory, Queries, Steps};
 use std::alloc::Global;
 use std::sync::ledger::Ledger;
 
-/// The components of the kind that the intent finds and whose packages the caller sees, in the order of
-/// [`Board::query`]: by falling priority, then uid, then place. No gate is asked: a caller that sees a component may
-/// still not reach it. Each full test of a filter against the intent is a step, as in a query: at most as many as the
+/// What [`Board::query`] shows of what the intent finds, without what is of a package that the caller doesn't see. No
+/// gate is asked: a caller that sees a component may still not reach it. Each full test of a filter against the intent is a step, as in a query: at most as many as the
 /// intent's group has filters, and none if the intent names a component. ("Package visibility filtering".)
 ///
 /// # Errors
