@@ -22,6 +22,20 @@ EXAMPLES = TOP / "examples"
 PATIENCE_SECONDS = 300
 
 
+# the files whose tests wait long for programs
+SLOW = ("test_ui_browser", "test_survey", "test_compare", "test_serve", "test_from_phone")
+
+
+def pytest_collection_modifyitems(items: list[pytest.Item]) -> None:
+    """Spreads the slow tests evenly, since pytest-xdist hands out long runs of neighbours."""
+    places = {item: (at + 0.5) / len(group) for group in _slow_and_quick(items) for at, item in enumerate(group)}
+    items.sort(key=lambda it: places[it])
+
+
+def _slow_and_quick(items: list[pytest.Item]) -> tuple[list[pytest.Item], list[pytest.Item]]:
+    return [it for it in items if it.path.stem in SLOW], [it for it in items if it.path.stem not in SLOW]
+
+
 @dataclass(frozen=True)
 class Ran:
     """How a command ended, and what it printed."""
