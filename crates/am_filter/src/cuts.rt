@@ -9,7 +9,7 @@ ghost use Rattle.am_types.specs.declared.uri.Mime.{Mime};
 
 use crate::data::{is_any, is_any_type, passes_authority};
 use crate::filter::lists;
-use am_types::{Authority, Filter, Intent, List, Mime, Text, Uri};
+use am_types::{Authority, Filter, Intent, List, Mime, Text, Uri, UriParts};
 
 /// The action of an intent to view something.
 const VIEW: &str = "android.intent.action.VIEW";
@@ -168,29 +168,29 @@ fn reached_by_data(filter: &Filter, uri: &Option<Uri>) -> u8
 {
     match uri {
         None => 1,
-        Some(uri) => reached_by_uri(filter, uri),
+        Some(uri) => reached_by_uri(filter, &uri.phone),
     }
 }
 
-/// The same of a URI in a filter that lists schemes.
-fn reached_by_uri(filter: &Filter, uri: &Uri) -> u8
-    ensures { result ≡ reached_by_uri filter.now uri.now }
+/// The same of a URI with these parts in a filter that lists schemes.
+fn reached_by_uri(filter: &Filter, parts: &UriParts) -> u8
+    ensures { result ≡ reached_by_uri filter.now parts.now }
 {
     if filter.authorities.as_slice().is_empty() {
         2
     } else if filter.paths.as_slice().is_empty() {
-        reached_by_authority(&filter.authorities, uri)
+        reached_by_authority(&filter.authorities, parts)
     } else {
         5
     }
 }
 
 /// The first authority that passes says whether the port counts.
-fn reached_by_authority(authorities: &List<Authority>, uri: &Uri) -> u8
-    ensures { result ≡ reached_by_authority authorities.now uri.now }
+fn reached_by_authority(authorities: &List<Authority>, parts: &UriParts) -> u8
+    ensures { result ≡ reached_by_authority authorities.now parts.now }
 {
     for authority in authorities.as_slice() {
-        if passes_authority(authority, uri) {
+        if passes_authority(authority, parts) {
             return reached_by_port(authority.port);
         }
     }

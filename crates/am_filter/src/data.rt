@@ -10,7 +10,7 @@ ghost use Rattle.am_filter.specs.Answers.{answer_of};
 ghost use Rattle.am_filter.specs.Patterns.{has_pattern, repeats};
 
 use crate::filter::lists;
-use am_types::{Authority, Filter, List, Mime, PathRule, Rules, Text, Uri, Why};
+use am_types::{Authority, Filter, List, Mime, PathRule, Rules, Text, Uri, UriParts, Why};
 use am_uri::passes_path;
 
 /// Whether the data passes. (The `<data>` element of the reference.)
@@ -92,33 +92,35 @@ fn passes_uri(rules: Rules, filter: &Filter, uri: &Uri) -> Result<(), Why>
     ensures { result ≡ answer_of (uri_why rules filter.now uri.now) }
 {
     unless(lists(&filter.schemes, &uri.scheme), Why::Scheme)?;
-    unless(passes_authorities(&filter.authorities, uri), Why::Host)?;
-    unless(passes_paths(rules, filter, uri), Why::Path)
+    let parts = uri.parts(rules);
+    unless(passes_authorities(&filter.authorities, parts), Why::Host)?;
+    unless(passes_paths(rules, filter, parts), Why::Path)
 }
 
 /// Some authority passes, if any is listed.
-fn passes_authorities(authorities: &List<Authority>, uri: &Uri) -> bool
-    ensures { result ≡ passes_authorities authorities.now uri.now }
+fn passes_authorities(authorities: &List<Authority>, parts: &UriParts) -> bool
+    ensures { result ≡ passes_authorities authorities.now parts.now }
 {
     let authorities = authorities.as_slice();
-    authorities.is_empty() || some_authority_passes(authorities, uri)
+    authorities.is_empty() || some_authority_passes(authorities, parts)
 }
 
-fn some_authority_passes(authorities: &[Authority], uri: &Uri) -> bool
-    ensures { result ≡ list_any (λ authority. passes_authority authority uri.now.host uri.now.port) authorities.now }
+fn some_authority_passes(authorities: &[Authority], parts: &UriParts) -> bool
+    ensures { result
+        ≡ list_any (λ authority. passes_authority authority parts.now.host parts.now.port) authorities.now }
 {
     authorities
         .iter()
-        .any(|authority| passes_authority(authority, uri))
+        .any(|authority| passes_authority(authority, parts))
 }
 
 /// Some path rule passes, if there is one that counts: paths count only with an authority.
-fn passes_paths(rules: Rules, filter: &Filter, uri: &Uri) -> bool
-    ensures { result ≡ passes_paths rules filter.now uri.now }
+fn passes_paths(rules: Rules, filter: &Filter, parts: &UriParts) -> bool
+    ensures { result ≡ passes_paths rules filter.now parts.now }
 {
     filter.authorities.as_slice().is_empty()
         || filter.paths.as_slice().is_empty()
-        || some_path_passes(rules, &filter.paths, &uri.path)
+        || some_path_passes(rules, &filter.paths, &parts.path)
 }
 
 /// Some rule passes. A pattern costs most, so a pattern that is also an earlier rule isn't tested again.
@@ -161,13 +163,13 @@ fn has_pattern(rule: &PathRule, pattern: &Text) -> bool
 }
 
 /// The URI has a host, and its host and port match those of the authority.
-pub(crate) fn passes_authority(authority: &Authority, uri: &Uri) -> bool
-    ensures { result ≡ passes_authority authority.now uri.now.host uri.now.port }
+pub(crate) fn passes_authority(authority: &Authority, parts: &UriParts) -> bool
+    ensures { result ≡ passes_authority authority.now parts.now.host parts.now.port }
 {
-    match &uri.host {
+    match &parts.host {
         None => false,
         Some(host) => {
-            has_host(authority.host.as_str(), host.as_str()) && has_port(authority.port, uri.port)
+            has_host(authority.host.as_str(), host.as_str()) && has_port(authority.port, parts.port)
         }
     }
 }

@@ -7,6 +7,7 @@ use Rattle.am_types.specs.declared.manifest.Kind.TheVariants.{Activity, Service}
 use Rattle.am_types.specs.declared.manifest.Decl.{Decl}
 use Rattle.am_types.specs.declared.uri.Mime.{Mime}
 use Rattle.am_types.specs.declared.uri.Uri.{Uri}
+use Rattle.am_types.specs.declared.uri.UriParts.{UriParts}
 use Rattle.am_types.specs.Intents.{no_intent}
 use Rattle.am_model.specs.Plain.{filter_for, open_decl}
 use Rattle.am_index.specs.declared.key.Group.TheVariants.{Action, Scheme, Typed, Main}
@@ -18,9 +19,11 @@ use Rattle.am_index.specs.Lookups.{groups_for}
 abbrev asking : List ℕ → Intent
 asking action = record no_intent { action = Some action }
 
--- a URI by its text, its scheme and its host
+-- a URI by its text, its scheme and its host, which are the same by both rules
 abbrev uri_at : List ℕ → List ℕ → Option (List ℕ) → Uri
-uri_at text scheme host = record { text = text; scheme = scheme; host = host; port = None; path = codes "/" }
+uri_at text scheme host =
+    let parts : UriParts = record { host = host; port = None; path = codes "/" } in
+    record { text = text; scheme = scheme; profile = parts; phone = parts }
 
 -- a type by its two parts
 abbrev mime_at : List ℕ → List ℕ → Mime

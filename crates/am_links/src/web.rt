@@ -7,7 +7,7 @@ ghost use Rattle.am_model.specs.Targets.{is_view, is_web_category, named_host, w
 ghost use Rattle.am_model.specs.Texts.{lists};
 
 use crate::domain::is_domain;
-use am_types::{Intent, List, Text, Uri};
+use am_types::{Intent, List, Rules, Text, Uri};
 
 /// What a page is viewed by.
 pub(crate) const VIEW: &str = "android.intent.action.VIEW";
@@ -53,12 +53,12 @@ fn named_host(host: &Option<Text>) -> Option<&Text>
     }
 }
 
-/// The host of a web page, if the URI is the URI of one and has a nonempty host. Takes no memory.
-pub fn web_host(uri: &Option<Uri>) -> Option<&Text>
-    ensures { option_copied result ≡ web_host uri.now }
+/// The host of a web page by the device's rules, if the URI is the URI of one and has a nonempty host. Takes no memory.
+pub fn web_host(rules: Rules, uri: &Option<Uri>) -> Option<&Text>
+    ensures { option_copied result ≡ web_host rules uri.now }
 {
     match uri {
-        Some(uri) if is_web_scheme(&uri.scheme) => named_host(&uri.host),
+        Some(uri) if is_web_scheme(&uri.scheme) => named_host(&uri.parts(rules).host),
         _ => None,
     }
 }
@@ -133,7 +133,7 @@ pub(crate) fn link_host(intent: &Intent, default_only: bool) -> Option<&Text>
         && are_web_categories(&intent.categories)
         && asks_default(intent, default_only)
     {
-        domain_in(web_host(&intent.uri))
+        domain_in(web_host(Rules::Android12, &intent.uri))
     } else {
         None
     }

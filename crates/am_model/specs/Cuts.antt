@@ -11,6 +11,7 @@ use Rattle.am_types.specs.declared.filter.Why.TheVariants.{Action}
 use Rattle.am_types.specs.declared.intent.Intent.{Intent}
 use Rattle.am_types.specs.declared.uri.Mime.{Mime}
 use Rattle.am_types.specs.declared.uri.Uri.{Uri}
+use Rattle.am_types.specs.declared.uri.UriParts.{UriParts}
 use Rattle.am_model.specs.Texts.{is_same, lists}
 use Rattle.am_model.specs.MimeTypes.{is_any, is_any_type}
 use Rattle.am_model.specs.Filters.{is_empty, or_else, passes_authority, unless, why}
@@ -104,24 +105,25 @@ reached_by_port None = 3
 reached_by_port (Some port) = 4
 
 -- what a URI reaches in the authorities of a filter, by the first that passes
-abbrev pub reached_by_authority : List Authority → Uri → ℕ
-reached_by_authority [] uri = 3
-reached_by_authority (first ∷ others) uri =
-    if passes_authority first uri.host uri.port then reached_by_port first.port else reached_by_authority others uri
+abbrev pub reached_by_authority : List Authority → UriParts → ℕ
+reached_by_authority [] parts = 3
+reached_by_authority (first ∷ others) parts =
+    if passes_authority first parts.host parts.port then reached_by_port first.port
+    else reached_by_authority others parts
 
 -- what a URI reaches in a filter that lists schemes: the scheme, an authority, or a path
-abbrev pub reached_by_uri : Filter → Uri → ℕ
-reached_by_uri filter uri =
+abbrev pub reached_by_uri : Filter → UriParts → ℕ
+reached_by_uri filter parts =
     if is_empty filter.authorities then 2
-    else if is_empty filter.paths then reached_by_authority filter.authorities uri
+    else if is_empty filter.paths then reached_by_authority filter.authorities parts
     else 5
 
 -- what the data of an intent reach in a filter that they pass and that lists no type, from low to high: no data, a
 -- scheme, a host, a host and a port, a path
 abbrev pub reached_by_data : Filter → Option Uri → ℕ
 reached_by_data filter None = 1
-reached_by_data filter (Some uri) = reached_by_uri filter uri
+reached_by_data filter (Some uri) = reached_by_uri filter uri.phone
 
--- what the data of an intent reach in a filter that they pass: a type above all, if it lists types
+-- what the data of an intent reach on a phone in a filter that they pass: a type above all, if it lists types
 abbrev pub reached : Filter → Option Uri → ℕ
 reached filter uri = if is_empty filter.types then reached_by_data filter uri else 6

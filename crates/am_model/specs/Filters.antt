@@ -5,11 +5,13 @@ use Rattle.am_types.specs.declared.device.Rules.{Rules}
 use Rattle.am_types.specs.declared.device.Rules.TheVariants.{Profile, Android12}
 use Rattle.am_types.specs.declared.intent.Intent.{Intent}
 use Rattle.am_types.specs.declared.uri.Uri.{Uri}
+use Rattle.am_types.specs.declared.uri.UriParts.{UriParts}
 use Rattle.am_types.specs.declared.uri.Mime.{Mime}
 use Rattle.am_types.specs.declared.filter.Authority.{Authority}
 use Rattle.am_types.specs.declared.filter.Filter.{Filter}
 use Rattle.am_types.specs.declared.filter.Why.{Why}
 use Rattle.am_types.specs.declared.filter.Why.TheVariants.{Action, Scheme, Host, Path, Type_, Category}
+use Rattle.am_types.specs.Uris.{parts_by}
 use Rattle.am_model.specs.Texts.{is_same, lists, ends_with, lowered}
 use Rattle.am_model.specs.MimeTypes.{passes_type}
 use Rattle.am_model.specs.Paths.{passes_path}
@@ -67,22 +69,22 @@ passes_authority authority (Some host) port =
     has_host (lowered authority.host) (lowered host) && has_port authority.port port
 
 -- some authority passes, if one is listed
-abbrev pub passes_authorities : List Authority → Uri → Bool
-passes_authorities authorities uri =
-    is_empty authorities || list_any (λ (a : Authority). passes_authority a uri.host uri.port) authorities
+abbrev pub passes_authorities : List Authority → UriParts → Bool
+passes_authorities authorities parts =
+    is_empty authorities || list_any (λ (a : Authority). passes_authority a parts.host parts.port) authorities
 
 -- some path rule passes, if one counts: paths count only beside an authority
-abbrev pub passes_paths : Rules → Filter → Uri → Bool
-passes_paths rules filter uri =
+abbrev pub passes_paths : Rules → Filter → UriParts → Bool
+passes_paths rules filter parts =
     (is_empty filter.authorities || is_empty filter.paths)
-    || list_any (λ rule. passes_path rules rule uri.path) filter.paths
+    || list_any (λ rule. passes_path rules rule parts.path) filter.paths
 
 -- why the URI doesn't pass: the scheme, then the host, then the path
 abbrev pub uri_why : Rules → Filter → Uri → Option Why
 uri_why rules filter uri =
     or_else (unless (lists filter.schemes uri.scheme) Scheme)
-    (or_else (unless (passes_authorities filter.authorities uri) Host)
-    (unless (passes_paths rules filter uri) Path))
+    (or_else (unless (passes_authorities filter.authorities (parts_by rules uri)) Host)
+    (unless (passes_paths rules filter (parts_by rules uri)) Path))
 
 -- a URI of content on the device itself
 abbrev pub is_local : Uri → Bool

@@ -4,6 +4,7 @@ use Rattle.std.specs.Char.{is_ascii_alphabetic, is_ascii_alphanumeric, is_ascii_
 use Rattle.std.specs.Int.{int_max}
 use Rattle.std.specs.Int.Digits.{number_from_digits}
 use Rattle.std.specs.List.{list_any, list_all}
+use Rattle.am_types.specs.declared.device.Rules.TheVariants.{Android12}
 use Rattle.am_types.specs.declared.intent.Intent.{Intent}
 use Rattle.am_types.specs.declared.uri.Uri.{Uri}
 use Rattle.am_types.specs.declared.filter.Authority.{Authority}
@@ -91,7 +92,7 @@ asks_default intent default_only = default_only || lists intent.categories defau
 abbrev pub link_host : Intent → Bool → Option (List ℕ)
 link_host intent default_only =
     if (is_view intent.action && list_all is_web_category intent.categories) && asks_default intent default_only
-    then domain_in (web_host intent.uri)
+    then domain_in (web_host Android12 intent.uri)
     else None
 
 -- the filter asks to view web pages of that host, which an approval needs

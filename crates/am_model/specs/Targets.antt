@@ -2,6 +2,7 @@
 use Rattle.std.specs.Prelude.{ℕ, Bool, true, false, ◌&&◌, ◌||◌, ◌==◌, codes, List, [], ◌∷◌, filter, if◌then◌else◌, Option, Some, None, is_none}
 use Rattle.std.specs.List.{list_any, list_all, take_while}
 use Rattle.std.specs.Ordering.{int_eq}
+use Rattle.am_types.specs.declared.device.Rules.{Rules}
 use Rattle.am_types.specs.declared.device.Rules.TheVariants.{Profile}
 use Rattle.am_types.specs.declared.intent.Intent.{Intent}
 use Rattle.am_types.specs.declared.uri.Uri.{Uri}
@@ -12,6 +13,7 @@ use Rattle.am_types.specs.declared.device.Link.{Link}
 use Rattle.am_types.specs.declared.resolve.Hit.{Hit}
 use Rattle.am_types.specs.declared.resolve.Target.{Target}
 use Rattle.am_types.specs.declared.resolve.Target.TheVariants.{Nothing, One, Choose}
+use Rattle.am_types.specs.Uris.{parts_by}
 use Rattle.am_model.specs.Texts.{is_same, lowered}
 use Rattle.am_model.specs.Filters.{default_category, is_empty, passes}
 use Rattle.am_model.specs.Boards.{Board}
@@ -22,10 +24,10 @@ abbrev pub named_host : Option (List ℕ) → Option (List ℕ)
 named_host None = None
 named_host (Some host) = if is_empty host then None else Some host
 
--- the host of a web page, if the URI is one's and has a nonempty host
-abbrev pub web_host : Option Uri → Option (List ℕ)
-web_host None = None
-web_host (Some uri) = if is_web_scheme uri.scheme then named_host uri.host else None
+-- the host of a web page by the device's rules, if the URI is one's and has a nonempty host
+abbrev pub web_host : Rules → Option Uri → Option (List ℕ)
+web_host rules None = None
+web_host rules (Some uri) = if is_web_scheme uri.scheme then named_host (parts_by rules uri).host else None
 
 -- the action is to view
 abbrev pub is_view : Option (List ℕ) → Bool
@@ -37,12 +39,12 @@ abbrev pub is_web_category : List ℕ → Bool
 is_web_category category = is_same category (codes "android.intent.category.BROWSABLE") || is_same category
     default_category
 
--- the host of a web intent: one that asks to view a web page, by no other categories and for no named app
+-- the profile: the host of a web intent, one that asks to view a web page, by no other categories and for no named app
 abbrev pub host_to_view : Intent → Option (List ℕ)
 host_to_view intent =
     if ((is_view intent.action && list_all is_web_category intent.categories) && is_none intent.component) && is_none
     intent.«package»
-    then web_host intent.uri
+    then web_host Profile intent.uri
     else None
 
 -- the package of the uid is approved for the host, with ASCII case ignored

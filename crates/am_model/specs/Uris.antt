@@ -4,8 +4,10 @@ use Rattle.std.specs.List.{list_any, list_all, take_while, before_first, after_f
 use Rattle.std.specs.Char.{is_ascii_alphabetic, is_ascii_alphanumeric, is_ascii_digit, is_ascii_hexdigit}
 use Rattle.std.specs.Int.Digits.{number_from_digits}
 use Rattle.std.specs.Str.{is_utf8}
+use Rattle.std.specs.Str.Lossy.{utf8_lossy}
 use Rattle.percent_encoding.specs.Percent.{percent_sign, percent_decode}
 use Rattle.am_types.specs.declared.uri.Uri.{Uri}
+use Rattle.am_types.specs.declared.uri.UriParts.{UriParts}
 use Rattle.am_types.specs.declared.uri.UriFault.{UriFault}
 use Rattle.am_types.specs.declared.uri.UriFault.TheVariants.{NoScheme, BadPort, BadEscape, NotUtf8, TooLong}
 use Rattle.am_model.specs.Texts.{begins_with}
@@ -111,17 +113,85 @@ host_of rest = if has_authority rest then Some (host_in (server_in (authority_in
 abbrev pub port_in : List ℕ → Option ℕ
 port_in rest = if has_authority rest then port_of (port_text (server_in (authority_in rest))) else None
 
--- the parts of a text whose rest this is
+-- the profile: the parts of a rest
+abbrev pub profile_parts : List ℕ → UriParts
+profile_parts rest = record { host = host_of rest; port = port_in rest; path = percent_decode (path_text rest) }
+
+-- a phone: a backslash ends an authority too
+abbrev pub phone_ends_authority : ℕ → Bool
+phone_ends_authority b = ends_authority b || (b == 92)
+
+-- a phone: the authority of a rest that has one
+abbrev pub phone_authority_in : List ℕ → List ℕ
+phone_authority_in rest = take_while (λ b. not (phone_ends_authority b)) (drop 2 rest)
+
+-- a phone: what follows the authority of a rest that has one
+abbrev pub phone_behind_authority : List ℕ → List ℕ
+phone_behind_authority rest = drop (length (phone_authority_in rest)) (drop 2 rest)
+
+-- a phone: the authority has a colon behind which only digits follow
+abbrev pub phone_has_port : List ℕ → Bool
+phone_has_port authority = list_any is_colon authority && list_all is_ascii_digit (after_last is_colon authority)
+
+-- a phone: the authority without its port
+abbrev pub phone_without_port : List ℕ → List ℕ
+phone_without_port authority = if phone_has_port authority then before_last is_colon authority else authority
+
+-- a phone: the digits of the port, none if the authority has no port
+abbrev pub phone_port_text : List ℕ → List ℕ
+phone_port_text authority = if phone_has_port authority then after_last is_colon authority else []
+
+-- a phone: a port of 31 bits, if it isn't greater
+abbrev pub phone_port_of : Option ℕ → Option ℕ
+phone_port_of None = None
+phone_port_of (Some port) = if nat_le port 2147483647 then Some port else None
+
+-- a phone: the path as it is written
+abbrev pub phone_path_text : List ℕ → List ℕ
+phone_path_text rest =
+    if has_authority rest then take_while (λ b. not (ends_path b)) (phone_behind_authority rest) else path_text rest
+
+-- the text with each bad escape, a percent sign without two hexadecimal digits behind it, and the digit that may stand
+-- there, as a byte that no text has; whether a bad one comes just before
+abbrev pub marked_from : Bool → List ℕ → List ℕ
+marked_from bad [] = []
+marked_from bad (b ∷ others) =
+    if bad && is_ascii_hexdigit b then marked_from false others
+    else if (b == percent_sign) && not (begins_with_digits others) then 255 ∷ marked_from true others
+    else b ∷ marked_from false others
+
+-- a phone: what a text's escapes stand for, with U+FFFD for bad escapes and for bytes that aren't UTF-8
+abbrev pub phone_decoded : List ℕ → List ℕ
+phone_decoded text = utf8_lossy (percent_decode (marked_from false text))
+
+-- a phone: the host of a rest that has an authority
+abbrev pub phone_host_of : List ℕ → Option (List ℕ)
+phone_host_of rest =
+    if has_authority rest then Some (phone_decoded (server_in (phone_without_port (phone_authority_in rest)))) else None
+
+-- a phone: the port of a rest that has an authority with one
+abbrev pub phone_port_in : List ℕ → Option ℕ
+phone_port_in rest =
+    if has_authority rest then phone_port_of (port_of (phone_port_text (phone_authority_in rest))) else None
+
+-- a phone: the parts of a rest
+abbrev pub phone_parts : List ℕ → UriParts
+phone_parts rest = record {
+  host = phone_host_of rest;
+  port = phone_port_in rest;
+  path = phone_decoded (phone_path_text rest);
+}
+
+-- the parts of a text whose rest this is, by both rules
 abbrev pub parts_of : List ℕ → List ℕ → Uri
 parts_of text rest = record {
   text = text;
   scheme = scheme_in text;
-  host = host_of rest;
-  port = port_in rest;
-  path = percent_decode (path_text rest);
+  profile = profile_parts rest;
+  phone = phone_parts rest;
 }
 
--- the URI that a text is, or the first fault that it has
+-- the URI that a text is, or the first fault that it has, which the profile names under both rules
 unfoldable pub uri_of : List ℕ → Result Uri UriFault
 uri_of text =
     if nat_lt 1024 (length text) then Err TooLong

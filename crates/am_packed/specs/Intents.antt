@@ -9,6 +9,7 @@ use Rattle.am_types.specs.declared.intent.Named.{Named}
 use Rattle.am_types.specs.declared.intent.Flags.{Flags}
 use Rattle.am_types.specs.declared.intent.Intent.{Intent}
 use Rattle.am_types.specs.declared.uri.Uri.{Uri}
+use Rattle.am_types.specs.declared.uri.UriParts.{UriParts}
 use Rattle.am_types.specs.declared.uri.Mime.{Mime}
 use Rattle.am_types.specs.declared.pending.PendingFlags.{PendingFlags}
 use Rattle.am_packed.specs.Forms.{Form, ◌and◌, ◌&◌, made_of}
@@ -50,12 +51,17 @@ unfoldable pub component_form : Form Component
 component_form =
     made_of (text and text) (λ x. x.package & x.class) (λ p. record { «package» = p.0; class = p.1 }) (λ x. refl)
 
+-- the parts of a URI by one of the device's rules
+unfoldable pub uri_parts_form : Form UriParts
+uri_parts_form =
+    made_of (option_of text and option_of short_number and text) (λ x. x.host & x.port & x.path)
+    (λ p. record { host = p.0; port = p.1.0; path = p.1.1 }) (λ x. refl)
+
 -- a URI with its parts
 unfoldable pub uri_form : Form Uri
 uri_form =
-    made_of (text and text and option_of text and option_of short_number and text)
-    (λ x. x.text & x.scheme & x.host & x.port & x.path)
-    (λ p. record { text = p.0; scheme = p.1.0; host = p.1.1.0; port = p.1.1.1.0; path = p.1.1.1.1 }) (λ x. refl)
+    made_of (text and text and uri_parts_form and uri_parts_form) (λ x. x.text & x.scheme & x.profile & x.phone)
+    (λ p. record { text = p.0; scheme = p.1.0; profile = p.1.1.0; phone = p.1.1.1 }) (λ x. refl)
 
 -- a MIME type
 unfoldable pub mime_form : Form Mime

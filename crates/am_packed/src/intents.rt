@@ -1,12 +1,12 @@
 //! Intents and their parts, and the outcomes of broadcasts, which carry extras too.
 ghost use Rattle.std.specs.Prelude.{◌≡◌, ◌++◌, OnOk, IfOk, IsOk, IsTrue};
 ghost use Rattle.am_packed.specs.Outcomes.{outcome_form, ordered_form};
-ghost use Rattle.am_packed.specs.Intents.{kind_form, component_form, uri_form, mime_form, extra_form, named_form, flags_form, intent_form, pending_flags_form};
+ghost use Rattle.am_packed.specs.Intents.{kind_form, component_form, uri_parts_form, uri_form, mime_form, extra_form, named_form, flags_form, intent_form, pending_flags_form};
 
 use crate::form::{Pack, Parts, pack_parts, parts, unpack_parts};
 use am_types::{
     Component, Extra, Flags, Intent, Kind, Mime, Named, NoMemory, Ordered, Outcome, PendingFlags,
-    Text, Uri,
+    Text, Uri, UriParts,
 };
 use std::alloc::Global;
 
@@ -47,16 +47,29 @@ impl Pack for Component {
     }
 }
 
+#[tactic(auto, unfolding(crate::specs::Intents::uri_parts_form))]
+impl Pack for UriParts {
+    ghost form = { uri_parts_form };
+
+    fn pack(&self, out: &mut Vec<u8>) -> Result<(), NoMemory> {
+        pack_parts!(self, out: host port path)
+    }
+
+    fn unpack(alloc: Global, bytes: &[u8]) -> Result<(UriParts, &[u8]), NoMemory> {
+        unpack_parts!(alloc, bytes, UriParts: host port path)
+    }
+}
+
 #[tactic(auto, unfolding(crate::specs::Intents::uri_form))]
 impl Pack for Uri {
     ghost form = { uri_form };
 
     fn pack(&self, out: &mut Vec<u8>) -> Result<(), NoMemory> {
-        pack_parts!(self, out: text scheme host port path)
+        pack_parts!(self, out: text scheme profile phone)
     }
 
     fn unpack(alloc: Global, bytes: &[u8]) -> Result<(Uri, &[u8]), NoMemory> {
-        unpack_parts!(alloc, bytes, Uri: text scheme host port path)
+        unpack_parts!(alloc, bytes, Uri: text scheme profile phone)
     }
 }
 

@@ -31,7 +31,7 @@ pub fn host_to_view(intent: &Intent) -> Option<&Text>
         && intent.component.is_none()
         && intent.package.is_none()
     {
-        web_host(&intent.uri)
+        web_host(Rules::Profile, &intent.uri)
     } else {
         None
     }

@@ -33,16 +33,16 @@ fn shown_of(alloc: Global, uri: &Uri, whole: &Text) -> Result<String, AllocError
 
 fn shown(alloc: Global, uri: &Uri) -> Result<String, AllocError> {
     let mut parts = String::from_str(alloc, uri.scheme.as_str())?;
-    if let Some(host) = &uri.host {
+    if let Some(host) = &uri.profile.host {
         parts.push_str(" host=")?;
         parts.push_str(host.as_str())?;
     }
-    if let Some(port) = uri.port {
+    if let Some(port) = uri.profile.port {
         let port = format!(in alloc; " port={port}")?;
         parts.push_str(port.as_str())?;
     }
     parts.push_str(" path=")?;
-    parts.push_str(uri.path.as_str())?;
+    parts.push_str(uri.profile.path.as_str())?;
     Ok(parts)
 }
 

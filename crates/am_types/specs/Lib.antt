@@ -2,3 +2,4 @@ pub mod Bounds
 pub mod Intents
 pub mod Printing
 pub mod Reading
+pub mod Uris

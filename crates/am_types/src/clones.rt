@@ -3,7 +3,7 @@ ghost use Rattle.std.specs.Prelude.{◌≡◌};
 
 use crate::{
     Aim, Answer, Authority, Component, Decl, Entry, Extra, Filter, Hit, Intent, Mime, Named,
-    Ordered, Outcome, Package, PathRule, Spot, Uri, copy_parts, copy_variants,
+    Ordered, Outcome, Package, PathRule, Spot, Uri, UriParts, copy_parts, copy_variants,
 };
 use std::alloc::AllocError;
 
@@ -139,7 +139,15 @@ impl Clone for Uri {
     ghost is_clone = { λ x y. y ≡ x };
 
     fn clone(&self) -> Result<Uri, AllocError> {
-        copy_parts!(self, Uri: value(text scheme path) option(host); port)
+        copy_parts!(self, Uri: value(text scheme profile phone))
+    }
+}
+
+impl Clone for UriParts {
+    ghost is_clone = { λ x y. y ≡ x };
+
+    fn clone(&self) -> Result<UriParts, AllocError> {
+        copy_parts!(self, UriParts: option(host) value(path); port)
     }
 }
 

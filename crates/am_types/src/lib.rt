@@ -49,5 +49,5 @@ pub use task::{
 };
 pub use text::Text;
 pub use uids::{ROOT, SYSTEM};
-pub use uri::{Mime, MimeFault, Uri, UriFault};
+pub use uri::{Mime, MimeFault, Uri, UriFault, UriParts};
 pub use visible::{Queries, Signature};

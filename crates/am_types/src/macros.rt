@@ -11,7 +11,7 @@ macro_rules! drop_parts {
 
 /// A copy of a value by all its fields: the body of a `clone` that gives an equal value. Each field is listed under the
 /// function of `copies` that copies it, and those that are `Copy` after the semicolon, as in
-/// `copy_parts!(self, Uri: value(text scheme path) option(host); port)`.
+/// `copy_parts!(self, UriParts: option(host) value(path); port)`.
 #[macro_export]
 macro_rules! copy_parts {
     ($value:ident, $kind:ident: $($how:ident($($field:ident)*))* $(; $($same:ident)*)?) => {

@@ -1,4 +1,22 @@
-use crate::{Text, drop_parts};
+ghost use Rattle.std.specs.Prelude.{◌≡◌};
+
+use crate::{Rules, Text, drop_parts};
+
+/// What a URI's rest says by one of the device's rules: a host, a port and a path.
+pub struct UriParts {
+    /// The host, which may be empty. None if there is no authority.
+    pub host: Option<Text>,
+    /// The port: from 0 to 99,999 by the profile, to 2,147,483,647 by a phone's rules. None if there is none.
+    pub port: Option<u32>,
+    /// The path, percent-decoded.
+    pub path: Text,
+}
+
+impl Drop for UriParts {
+    fn drop(self) {
+        drop_parts!(self, UriParts: host port path);
+    }
+}
 
 /// A URI with its parts.
 pub struct Uri {
@@ -6,17 +24,29 @@ pub struct Uri {
     pub text: Text,
     /// The scheme, as it was written.
     pub scheme: Text,
-    /// The host, which may be empty. None if there is no authority.
-    pub host: Option<Text>,
-    /// The port, from 0 to 99,999. None if none is written.
-    pub port: Option<u32>,
-    /// The path, percent-decoded.
-    pub path: Text,
+    /// The other parts as the profile takes them.
+    pub profile: UriParts,
+    /// The other parts as a phone takes them.
+    pub phone: UriParts,
 }
 
 impl Drop for Uri {
     fn drop(self) {
-        drop_parts!(self, Uri: text scheme host port path);
+        drop_parts!(self, Uri: text scheme profile phone);
+    }
+}
+
+impl Uri {
+    ghost use Rattle.am_types.specs.Uris.{parts_by};
+
+    /// Its parts by the device's rules. Takes no memory.
+    pub fn parts(&self, rules: Rules) -> &UriParts
+        ensures { result.now ≡ parts_by rules self.now }
+    {
+        match rules {
+            Rules::Profile => &self.profile,
+            Rules::Android12 => &self.phone,
+        }
     }
 }
 

@@ -1,6 +1,6 @@
 -- How the pieces of a phone's pattern come off the front of its units.
-use Rattle.std.proofs.Common.{◌≡◌, ℕ, Bool, true, false, cond, ◌==◌, List, [], ◌∷◌, refl, sym, ap, ◌∙◌, arith}
-use Rattle.am_model.specs.Paths.{Mark, Piece, Rest, UpTo, Run, One, is_plain_dot, is_star, phone_marks_of, pieces_of}
+use Rattle.std.proofs.Common.{◌≡◌, ℕ, Bool, true, false, cond, ◌==◌, List, [], ◌∷◌, refl, ap, ◌∙◌, arith}
+use Rattle.am_model.specs.Paths.{Mark, Rest, UpTo, Run, One, is_plain_dot, is_star, phone_marks_of, pieces_of}
 use Rattle.am_uri.specs.PathPieces.{starts_with}
 
 -- a star

@@ -1,9 +1,9 @@
 -- How the units of a text come off its front.
-use Rattle.std.proofs.Common.{◌≡◌, ◌<◌, ℕ, Bool, true, false, ◌==◌, ◌&&◌, ◌⊎◌, inl, inr, Option, Some, None, List, [], ◌∷◌, ◌++◌, length, refl, sym, ap, ◌∙◌, subst, arith, chars, IsUtf8}
-use Rattle.std.specs.Prelude.{MatchOption, encode_utf8}
+use Rattle.std.proofs.Common.{◌≡◌, ◌<◌, ℕ, true, false, inl, inr, Option, Some, None, List, [], ◌∷◌, ◌++◌, length, refl, sym, ap, ◌∙◌, subst, arith, IsUtf8}
+use Rattle.std.specs.Prelude.{MatchOption}
 use Rattle.std.specs.List.{flat_map}
 use Rattle.std.specs.Char.Escape.{encode_utf16}
-use Rattle.std.specs.Str.Iter.{encode_utf16_pending, encode_utf16_rest, encode_utf16_steps}
+use Rattle.std.specs.Str.Iter.{encode_utf16_rest, encode_utf16_steps}
 use Rattle.std.specs.declared.str.EncodeUtf16.{EncodeUtf16}
 use Rattle.std.proofs.lemmas.Bool.{ne_eqb, eq-eqb}
 use Rattle.std.proofs.lemmas.List.{nil_from_length}

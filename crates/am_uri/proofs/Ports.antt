@@ -1,13 +1,14 @@
 -- A port that is read is the number that its digits write.
-use Rattle.std.proofs.Common.{◌≡◌, ℕ, ◌-◌, ◌<◌, ◌≤◌, ◌^◌, true, List, [], ◌∷◌, length, map, None, Result, Ok, Err, nat_le, refl, ap, arith, rules}
+use Rattle.std.proofs.Common.{◌≡◌, ℕ, ◌-◌, ◌<◌, ◌≤◌, ◌^◌, true, false, List, [], ◌∷◌, length, map, Some, None, Result, Ok, Err, nat_le, refl, ap, arith, rules, inl, inr}
 use Rattle.std.specs.Result.{result_ok}
 use Rattle.std.specs.List.{list_all}
 use Rattle.std.specs.Char.{is_ascii_digit}
 use Rattle.std.specs.Int.Digits.{number_from_digits_after}
 use Rattle.std.specs.Str.Parse.{ParsesUnsigned}
-use Rattle.std.proofs.lemmas.Bool.{and_parts, leb-true}
+use Rattle.std.proofs.lemmas.Bool.{and_parts, cases_lt, leb-true}
+use Rattle.std.proofs.lemmas.Bool.Decides.{nat_tests}
 use Rattle.std.proofs.lemmas.Str.Parse.{IsNumeralModel, numerals_by_fold, parse_digits, parse_gives, digits_value_short}
-use Rattle.am_model.specs.Uris.{is_port, port_of}
+use Rattle.am_model.specs.Uris.{is_port, phone_port_of, port_of}
 
 -- the number that the digits write after this one
 abbrev read_on : ℕ → List ℕ → ℕ
@@ -28,3 +29,16 @@ port_of-parse (digit ∷ digits) r h port =
     let short : length (digit ∷ digits) ≤ 5 = leb-true _ 5 parts.0 in
     let low : read_on 0 (digit ∷ digits) < 10 ^ 5 = digits_value_short own (digit ∷ digits) 5 parts.1 short in
     ap result_ok (parse_gives own 32 (digit ∷ digits) r h parts.1 (omega arith) (omega arith))
+
+-- digits that were read as a number of 32 bits are a phone's port as the number is, and others are none
+pub phone_port-parse : {E : Type 0} (digits : List ℕ) (r : Result ℕ E) → ParsesUnsigned 32 10 digits r
+    → list_all is_ascii_digit digits ≡ true → phone_port_of (result_ok r) ≡ phone_port_of (port_of digits)
+phone_port-parse [] r h all = ap phone_port_of (empty_fails r h)
+phone_port-parse {E} (digit ∷ digits) (Ok number) h all =
+    ap (λ n. phone_port_of (Some n)) (parse_digits own {E = E} 32 (digit ∷ digits) (Ok number) h all).1
+phone_port-parse {E} (digit ∷ digits) (Err fault) h all =
+    let number = read_on 0 (digit ∷ digits) in
+    elim (cases_lt number 2147483648) [
+      | inl low ↦ absurd (parse_digits own {E = E} 32 (digit ∷ digits) (Err fault) h all (omega arith, omega (arith, low)))
+      | inr high ↦ let great : nat_le number 2147483647 ≡ false = grind (arith, nat_tests) in rw great refl
+    ]

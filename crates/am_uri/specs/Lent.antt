@@ -7,7 +7,7 @@ use Rattle.percent_encoding.specs.Percent.{percent_decode}
 use Rattle.am_types.specs.declared.uri.Uri.{Uri}
 use Rattle.am_types.specs.declared.uri.UriFault.{UriFault}
 use Rattle.am_types.specs.declared.uri.UriFault.TheVariants.{NoScheme, BadPort, BadEscape, NotUtf8, TooLong, NoMemory}
-use Rattle.am_model.specs.Uris.{is_port_good, host_of, port_in}
+use Rattle.am_model.specs.Uris.{is_port_good, host_of, phone_parts, port_in}
 use Rattle.am_uri.specs.declared.uri.Written.{Written}
 
 -- the URI of a text, from these parts and this path
@@ -15,9 +15,8 @@ abbrev pub uri_with : List ℕ → Written → List ℕ → Uri
 uri_with text parts path = record {
   text = text;
   scheme = parts.scheme.now;
-  host = option_copied parts.host;
-  port = parts.port;
-  path = path;
+  profile = record { host = option_copied parts.host; port = parts.port; path = path };
+  phone = phone_parts parts.rest.now;
 }
 
 -- the URI of a text, from these parts, or the error that its path isn't UTF-8
@@ -27,14 +26,14 @@ decoded text parts =
     else Ok (uri_with text parts (percent_decode parts.path.now))
 
 -- the parts are those of the expected URI, whose path is still to be decoded, or the fault is the expected one
-abbrev pub UriParts : List ℕ → Result Uri UriFault → Result Written UriFault → Type 0
-UriParts text wanted (Ok parts) = wanted ≡ decoded text parts
-UriParts text wanted (Err NoScheme) = wanted ≡ Err NoScheme
-UriParts text wanted (Err BadPort) = wanted ≡ Err BadPort
-UriParts text wanted (Err BadEscape) = wanted ≡ Err BadEscape
-UriParts text wanted (Err NotUtf8) = ⊥
-UriParts text wanted (Err TooLong) = wanted ≡ Err TooLong
-UriParts text wanted (Err NoMemory) = ⊥
+abbrev pub IsWritten : List ℕ → Result Uri UriFault → Result Written UriFault → Type 0
+IsWritten text wanted (Ok parts) = wanted ≡ decoded text parts
+IsWritten text wanted (Err NoScheme) = wanted ≡ Err NoScheme
+IsWritten text wanted (Err BadPort) = wanted ≡ Err BadPort
+IsWritten text wanted (Err BadEscape) = wanted ≡ Err BadEscape
+IsWritten text wanted (Err NotUtf8) = ⊥
+IsWritten text wanted (Err TooLong) = wanted ≡ Err TooLong
+IsWritten text wanted (Err NoMemory) = ⊥
 
 -- the host and the port of the rest, or the error that its port isn't valid
 abbrev pub Serves : List ℕ → Result (Option (Bor (List ℕ)) × Option ℕ) UriFault → Type 0

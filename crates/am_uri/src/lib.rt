@@ -6,6 +6,7 @@ mod matching;
 mod mime;
 mod path;
 mod pattern;
+mod phone;
 mod pieces;
 mod places;
 mod rows;

@@ -6,10 +6,11 @@ ghost use Rattle.std.specs.Option.{option_copied};
 ghost use Rattle.am_model.specs.Uris.{is_colon, has_scheme, scheme_in, rest_in, ends_authority, ends_path, has_authority, authority_in, behind_authority, server_in, has_port, host_in, port_text, is_port, port_of, path_text, begins_with_digits, is_escaped, is_port_good, host_of, port_in, uri_of};
 ghost use Rattle.am_uri.specs.Answers.{IsUriAnswer};
 ghost use Rattle.am_uri.specs.Parts.{both};
-ghost use Rattle.am_uri.specs.Lent.{decoded, UriParts, Serves, Decodes, uri_with};
+ghost use Rattle.am_uri.specs.Lent.{decoded, IsWritten, Serves, Decodes, uri_with};
 
+use crate::phone::phone_parts;
 use crate::scheme::is_scheme;
-use am_types::{Text, Uri, UriFault};
+use am_types::{Text, Uri, UriFault, UriParts};
 use percent_encoding::{DecodeError, percent_decode};
 use std::alloc::{AllocError, Global};
 
@@ -36,6 +37,8 @@ const MAX_DIGITS: usize = 5;
 /// other than a port follows that colon, `BadEscape` if a percent sign of the path isn't
 /// followed by two hexadecimal digits, and `NotUtf8` if the decoded path isn't UTF-8 (own:
 /// Android's `Uri` refuses none of these). `NoMemory` comes only if the path is decoded.
+///
+/// These are the profile's parts. Beside them stand those that a phone takes from the same text, which may be others.
 pub fn parse_uri(alloc: Global, text: &Text) -> Result<Uri, UriFault>
     ensures { IsUriAnswer (uri_of text.now) result }
 {
@@ -47,6 +50,7 @@ pub fn parse_uri(alloc: Global, text: &Text) -> Result<Uri, UriFault>
 #[derive(Drop)]
 struct Written<'a> {
     scheme: &'a str,
+    rest: &'a str,
     host: Option<&'a str>,
     port: Option<u32>,
     path: &'a str,
@@ -54,7 +58,7 @@ struct Written<'a> {
 
 #[tactic(auto, unfolding(am_model::specs::Uris::uri_of))]
 fn parts(text: &str) -> Result<Written<'_>, UriFault>
-    ensures { UriParts text.now (uri_of text.now) result }
+    ensures { IsWritten text.now (uri_of text.now) result }
 {
     if text.len() > MAX_LEN {
         return Err(UriFault::TooLong);
@@ -69,6 +73,7 @@ fn parts(text: &str) -> Result<Written<'_>, UriFault>
     }
     Ok(Written {
         scheme,
+        rest,
         host,
         port,
         path,
@@ -117,7 +122,7 @@ fn authority_len(text: &str) -> usize
 }
 
 /// What follows the last `@`, or all of it.
-fn server_of(authority: &str) -> &str
+pub(crate) fn server_of(authority: &str) -> &str
     ensures { result.now ≡ server_in authority.now }
 {
     match authority.rsplit_once('@') {
@@ -169,14 +174,14 @@ fn is_port(text: &str) -> bool
     text.len() <= MAX_DIGITS && has_digits_alone(text)
 }
 
-fn has_digits_alone(text: &str) -> bool
+pub(crate) fn has_digits_alone(text: &str) -> bool
     ensures { result ≡ list_all is_ascii_digit text.now }
 {
     text.bytes().all(|b| b.is_ascii_digit())
 }
 
 /// The path as it is written, which is empty in an opaque rest.
-fn path_of(rest: &str) -> &str
+pub(crate) fn path_of(rest: &str) -> &str
     ensures { result.now ≡ path_text rest.now }
 {
     match split_authority(rest) {
@@ -187,7 +192,7 @@ fn path_of(rest: &str) -> &str
 }
 
 /// The text before the first question mark or number sign.
-fn before_query(text: &str) -> &str
+pub(crate) fn before_query(text: &str) -> &str
     ensures { result.now ≡ take_while (λ b. not (ends_path b)) text.now }
 {
     &text[..path_len(text)]
@@ -213,7 +218,7 @@ fn is_escaped(path: &[u8]) -> bool
     true
 }
 
-fn begins_with_digits(bytes: &[u8]) -> bool
+pub(crate) fn begins_with_digits(bytes: &[u8]) -> bool
     ensures { result ≡ begins_with_digits bytes.now }
 {
     match bytes {
@@ -252,9 +257,12 @@ fn copied(alloc: Global, text: &Text, parts: &Written<'_>, path: Text) -> Result
     Ok(Uri {
         text: text.clone()?,
         scheme: Text::of(alloc, parts.scheme)?,
-        host: copied_host(alloc, parts.host)?,
-        port: parts.port,
-        path,
+        profile: UriParts {
+            host: copied_host(alloc, parts.host)?,
+            port: parts.port,
+            path,
+        },
+        phone: phone_parts(alloc, parts.rest)?,
     })
 }
 

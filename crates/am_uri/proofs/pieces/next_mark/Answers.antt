@@ -1,6 +1,6 @@
 use Rattle.std.proofs.Common.{◌∷◌, ◌∙◌, sym, ap, false}
 use Rattle.am_model.specs.Paths.{phone_marks_of}
-use Rattle.am_uri.specs.PathPieces.{unit_mark, units_of}
+use Rattle.am_uri.specs.PathPieces.{units_of}
 use Rattle.am_uri.proofs.PathPieces.{plain_unit, literal_unit, literal_end}
 use Rattle.am_uri.proofs.pieces.next_mark.Goals as goal
 

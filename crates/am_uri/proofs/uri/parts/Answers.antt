@@ -33,9 +33,10 @@ returns c =
     ∙ sym c.if-not-is_escaped.ensures in
     uri_of-parts text (record {
       scheme = c.in-Some.scheme;
+      rest = c.in-Some.rest;
       host = c.in_ok-host.host;
       port = c.in_ok-host.port;
       path =
           c.path_of-path.result;
-    }) short cut.0 (ap is_port_good (sym rest) ∙ server.0) escaped (ap (λ both. both.0) cut.1)
+    }) short cut.0 (ap is_port_good (sym rest) ∙ server.0) escaped (ap (λ both. both.0) cut.1) rest
     (server.1 ∙ ap host_of rest) (server.2 ∙ ap port_in rest) path

@@ -1,4 +1,4 @@
-use Rattle.std.proofs.Common.{◌∷◌, ◌∙◌, sym, ap}
+use Rattle.std.proofs.Common.{◌∙◌, sym, ap}
 use Rattle.am_model.specs.Paths.{fits}
 use Rattle.am_uri.proofs.PathUnits.{run_fits}
 use Rattle.am_uri.proofs.units.Units.skip_run.Goals as goal
