@@ -7,17 +7,12 @@ from amctl.apps.manifests import Package
 
 COMPONENT_KINDS = ("activity", "service", "receiver")
 IN_DEVICE = "package.manifest."
-ESCAPES = {'"': '\\"', "\\": "\\\\", "\n": "\\n", "\t": "\\t", "\r": "\\r"}
-
-
-def escaped(character: str) -> str:
-    if character in ESCAPES:
-        return ESCAPES[character]
-    return character if character >= " " and character != "\x7f" else f"\\u{ord(character):04X}"
+CONTROLS = {code: f"\\u{code:04X}" for code in (*range(0x20), 0x7F)}
+ESCAPES = CONTROLS | str.maketrans({'"': '\\"', "\\": "\\\\", "\n": "\\n", "\t": "\\t", "\r": "\\r"})
 
 
 def string(text: str) -> str:
-    return '"' + "".join(map(escaped, text)) + '"'
+    return f'"{text.translate(ESCAPES)}"'
 
 
 def value(item: Any) -> str:

@@ -20,6 +20,8 @@ BARE = 'system_key = "system"\n'
 NAME = "device.toml"
 PREFIX = "amctl_survey_"
 OF_FOLDER = re.compile(rf"\S*/{PREFIX}[^/\s]*/")
+# what may stand between apostrophes: tomllib reads that at once, and a text in quotes character by character
+LITERAL = re.compile(r"[^'\x00-\x1f\x7f]*")
 
 
 def written(item: Any) -> str:
@@ -27,7 +29,7 @@ def written(item: Any) -> str:
     if isinstance(item, bool):
         return "true" if item else "false"
     if isinstance(item, str):
-        return string(item)
+        return f"'{item}'" if LITERAL.fullmatch(item) else string(item)
     if isinstance(item, Mapping):
         return "{" + ", ".join(f"{string(key)} = {written(value)}" for key, value in item.items()) + "}"
     if isinstance(item, list):
