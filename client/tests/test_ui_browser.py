@@ -60,8 +60,8 @@ def served(file: Path) -> Iterator[tuple[Device, "subprocess.Popen[str]", str]]:
             yield asked, program, said.split()[4]
 
 
-@pytest.fixture
-def browser() -> Iterator[Chrome]:
+@pytest.fixture(scope="session")
+def chrome() -> Iterator[Chrome]:
     options = Options()
     for word in ("--headless=new", "--no-sandbox", "--disable-gpu", "--disable-dev-shm-usage", "--window-size=860,860", "--hide-scrollbars"):
         options.add_argument(word)  # type: ignore[no-untyped-call]
@@ -72,6 +72,18 @@ def browser() -> Iterator[Chrome]:
         yield made
     finally:
         made.quit()
+
+
+@pytest.fixture
+def browser(chrome: Chrome) -> Iterator[Chrome]:
+    """A window of its own, and nothing in the browser's log yet."""
+    first = chrome.current_window_handle
+    chrome.switch_to.new_window("window")
+    chrome.set_window_size(860, 860)
+    faults(chrome)
+    yield chrome
+    chrome.close()
+    chrome.switch_to.window(first)
 
 
 def faults(browser: Chrome) -> list[str]:
