@@ -88,9 +88,12 @@ def four(tmp_path: Path) -> Path:
     return folder_of(tmp_path / "apps", **FOUR)
 
 
+MANY = 16
+
+
 @pytest.fixture
 def many(tmp_path: Path) -> Path:
-    texts = {f"app{it}": SHOP.replace("com.shop", f"com.app{it:02}").replace('"pay"', f'"pay{it % 3}"') for it in range(24)}
+    texts = {f"app{it}": SHOP.replace("com.shop", f"com.app{it:02}").replace('"pay"', f'"pay{it % 3}"') for it in range(MANY)}
     return folder_of(tmp_path / "many", **texts)
 
 
@@ -133,12 +136,12 @@ def test_links_that_one_app_claims_alone_are_left_out(amctl: Amctl, four: Path, 
 def test_the_most_exposed_come_first(amctl: Amctl, many: Path, tmp_path: Path) -> None:
     opened = 'package = "com.zoo"\nservice = [{ name = ".A", exported = true }, { name = ".B", exported = true }]\n'
     (many / "zoo.toml").write_text(opened, encoding="utf-8")
-    assert amctl("survey", "many", "--jobs", "2").status == 0
+    assert amctl("survey", "many", "--jobs", "1").status == 0
     exposed = lines(tmp_path / "survey", "exposed.csv")
     assert exposed[:3] == [
         "rank,package,components,open,activities,services,receivers,callers",
-        "1,com.zoo,2,2,0,2,0,24",
-        "2,com.app00,3,1,1,0,0,24",
+        f"1,com.zoo,2,2,0,2,0,{MANY}",
+        f"2,com.app00,3,1,1,0,0,{MANY}",
     ]
     assert len(exposed) == 11
 
@@ -163,7 +166,7 @@ def test_apps_are_added_to_a_device_with_its_grants(amctl: Amctl, four: Path, tm
 
 def test_each_app_is_on_a_copy_of_its_own(amctl: Amctl, four: Path, tmp_path: Path) -> None:
     (tmp_path / "till.toml").write_text(TILL, encoding="utf-8")
-    ran = amctl("survey", "apps", "--on", "till.toml", "--each", "--jobs", "2")
+    ran = amctl("survey", "apps", "--on", "till.toml", "--each", "--jobs", "1")
     assert ran.status == 0
     assert lines(tmp_path / "survey", "reach.csv") == [
         HEAD,
@@ -187,13 +190,13 @@ def test_a_device_file_in_the_folder_is_no_app(amctl: Amctl, four: Path, tmp_pat
 def test_the_picture_is_xml_with_each_name(amctl: Amctl, many: Path, tmp_path: Path) -> None:
     odd = 'package = "com.<odd>&\\u0001"\n'
     (many / "odd.toml").write_text(odd, encoding="utf-8")
-    assert amctl("survey", "many", "--jobs", "4").status == 0
+    assert amctl("survey", "many", "--jobs", "1").status == 0
     root = ElementTree.parse(tmp_path / "survey" / "reach.svg").getroot()
     texts = [it.text for it in root.iter("{http://www.w3.org/2000/svg}text")]
-    names = [f"com.app{it:02}" for it in range(24)] + ["com.<odd>&\ufffd"]
+    names = [f"com.app{it:02}" for it in range(MANY)] + ["com.<odd>&\ufffd"]
     # a name for its row, and one for its column
-    assert [texts.count(it) for it in names] == [2] * 25
-    assert "Who reaches whom: 25 packages on one device" in texts
+    assert [texts.count(it) for it in names] == [2] * (MANY + 1)
+    assert f"Who reaches whom: {MANY + 1} packages on one device" in texts
     assert {"activities", "services", "receivers", words_survey.SOME} <= set(texts)
     titles = [it.text for it in root.iter("{http://www.w3.org/2000/svg}title")]
     assert "com.app00 reaches of com.app01: 1 of 2 activities, 0 of 1 service" in titles
@@ -241,7 +244,7 @@ def test_what_was_interrupted_goes_on(four: Path, tmp_path: Path, monkeypatch: p
 
 
 def test_a_killed_survey_goes_on(amctl: Amctl, many: Path, tmp_path: Path) -> None:
-    amctl("survey", "many", "--jobs", "4", "--into", "whole")
+    amctl("survey", "many", "--jobs", "1", "--into", "whole")
     half = tmp_path / "half"
     slow = tmp_path / "slow"
     slow.write_text(f'#!/bin/sh\nsleep 0.05\nexec "{find_am()}" "$@"\n', encoding="utf-8")
@@ -249,16 +252,16 @@ def test_a_killed_survey_goes_on(amctl: Amctl, many: Path, tmp_path: Path) -> No
     environment = {**os.environ, "PYTHONPATH": str(CLIENT), "AM": str(slow)}
     running = subprocess.Popen([sys.executable, "-m", "amctl", "survey", "many", "--jobs", "2", "--into", "half"], cwd=tmp_path, env=environment)
     deadline = time.monotonic() + PATIENCE_SECONDS
-    # 24 are read, and then tried
-    while len(done_files(half)) < 30 and time.monotonic() < deadline:
+    # all are read, and then tried
+    while len(done_files(half)) < MANY + 4 and time.monotonic() < deadline:
         time.sleep(0.002)
     running.kill()
     assert running.wait() == -signal.SIGKILL
     before = done_files(half)
-    assert 30 <= len(before) < 72
+    assert MANY + 4 <= len(before) < 3 * MANY
     assert not any((half / it).exists() for it in RESULTS)
-    assert amctl("survey", "many", "--jobs", "4", "--into", "half", AM=str(slow)).status == 0
-    assert len(done_files(half)) == 72
+    assert amctl("survey", "many", "--jobs", "1", "--into", "half", AM=str(slow)).status == 0
+    assert len(done_files(half)) == 3 * MANY
     assert results(half) == results(tmp_path / "whole")
     assert before.items() <= done_files(half).items()
 
@@ -411,7 +414,7 @@ def test_more_apps_than_a_device_takes_are_refused(amctl: Amctl, tmp_path: Path,
     assert "256 apps are too many for one device, beside 1 that the device has" in refused(amctl, tmp_path, "apps", "--on", "till.toml")
     assert not (tmp_path / "survey").exists()
     # 256 are taken: this goes on to the program
-    assert amctl("survey", "apps", AM=str(tmp_path / "marking")).status != 0
+    assert amctl("survey", "apps", "--jobs", "1", AM=str(tmp_path / "marking")).status != 0
     assert (tmp_path / "ran").exists()
 
 
@@ -428,8 +431,8 @@ def test_words_that_cant_be_used(amctl: Amctl, four: Path, tmp_path: Path, marki
 
 def test_a_device_file_that_grows_too_large_is_said(amctl: Amctl, tmp_path: Path) -> None:
     # a device file has at most 16 MiB, and a key that no table lists is ignored
-    folder_of(tmp_path / "apps", **{f"a{it}": f'package = "com.a{it}"\nlong = "{"x" * 2**20}"\n' for it in range(16)})
-    ran = amctl("survey", "apps", "--jobs", "4")
+    folder_of(tmp_path / "apps", **{f"a{it}": f"package = 'com.a{it}'\nlong = '{'x' * 2**20}'\n" for it in range(16)})
+    ran = amctl("survey", "apps", "--jobs", "1")
     assert (ran.status, ran.out) == (2, "")
     assert ran.err.startswith("amctl: `am` doesn't take all apps on one device, though it takes each alone: ") and "/tmp" not in ran.err
     assert not (tmp_path / "survey" / "reach.csv").exists()
@@ -595,7 +598,9 @@ def scheduler(tmp_path: Path) -> Iterator[str]:
         address = f"tcp://127.0.0.1:{free.getsockname()[1]}"
     environment = {**os.environ, "PYTHONPATH": str(CLIENT), "AM": str(find_am())}
     words = [["dask_scheduler", "--host", address, "--no-dashboard"]]
-    words += [["dask_worker", address, "--nthreads", "1", "--no-dashboard", "--local-directory", str(tmp_path / f"w{it}")] for it in range(2)]
+    # a worker with a nanny would be two programs
+    worker = ["dask_worker", address, "--nthreads", "1", "--no-dashboard", "--no-nanny", "--local-directory"]
+    words += [[*worker, str(tmp_path / f"w{it}")] for it in range(2)]
     with (tmp_path / "dask.log").open("wb") as log:
         started = [
             subprocess.Popen([sys.executable, "-m", f"distributed.cli.{it[0]}", *it[1:]], env=environment, stdout=log, stderr=log, start_new_session=True)
