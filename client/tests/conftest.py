@@ -9,6 +9,9 @@ from contextlib import contextmanager
 from dataclasses import dataclass
 from pathlib import Path
 
+# what is loaded here is kept compiled, whatever the shell says: the programs that the tests run load it too
+sys.dont_write_bytecode = False
+
 import pytest
 
 from amctl import Device
@@ -27,7 +30,9 @@ SLOW = ("test_ui_browser", "test_survey", "test_compare", "test_serve", "test_fr
 
 
 def pytest_collection_modifyitems(items: list[pytest.Item]) -> None:
-    """Spreads the slow tests evenly, since pytest-xdist hands out long runs of neighbours."""
+    """Spreads the slow tests evenly, since pytest-xdist hands out long runs of neighbours.
+
+    So a file's tests don't follow each other, and what they share is of the scope `session`."""
     places = {item: (at + 0.5) / len(group) for group in _slow_and_quick(items) for at, item in enumerate(group)}
     items.sort(key=lambda it: places[it])
 

@@ -77,7 +77,7 @@ def planted() -> Iterator[Plant]:
 PLANTED = tuple(planted())
 
 
-@pytest.fixture(scope="module")
+@pytest.fixture(scope="session")
 def phone() -> Iterator[StandIn]:
     with StandIn(DEVICE, settings=Settings(debuggable=("com.notes",))) as found:
         yield found

@@ -47,7 +47,7 @@ def as_manifests_have_it(package: str, root: ET.Element) -> None:
         ET.SubElement(root[-1], "provider", {f"{{{manifests.ANDROID}}}{key}": value for key, value in provider.items()})
 
 
-@pytest.fixture(scope="module")
+@pytest.fixture(scope="session")
 def built() -> Iterator[Mapping[str, Sequence[Path]]]:
     with tempfile.TemporaryDirectory() as folder:
         yield apks.build_all(DEVICE, Path(folder), SPLITS, as_manifests_have_it)

@@ -63,7 +63,7 @@ class Front(http.server.BaseHTTPRequestHandler):
         """Says nothing."""
 
 
-@pytest.fixture(scope="module")
+@pytest.fixture(scope="session")
 def certificate(tmp_path_factory: pytest.TempPathFactory) -> Path:
     """The certificate of `localhost`, which vouches for itself, and its key beside it."""
     folder = tmp_path_factory.mktemp("tls")
@@ -86,7 +86,7 @@ def front(certificate: Path, port: int) -> Iterator[int]:
         server.shutdown()
 
 
-@pytest.fixture(scope="module")
+@pytest.fixture(scope="session")
 def fronted(certificate: Path) -> Iterator[str]:
     """The URL of a device behind a front."""
     with served(ORDERS) as port, front(certificate, port) as open_port:
