@@ -26,19 +26,21 @@ PATIENCE_SECONDS = 300
 
 
 # the files whose tests wait long for programs
-SLOW = ("test_ui_browser", "test_survey", "test_compare", "test_serve", "test_from_phone")
+SLOW = ("test_ui_browser", "test_survey", "test_compare", "test_serve", "test_from_phone", "test_ui", "test_server", "test_pytest_plugin")
+# how far through all tests theirs go: at the end no worker of pytest-xdist waits long for another
+END_OF_SLOW = 0.9
 
 
 def pytest_collection_modifyitems(items: list[pytest.Item]) -> None:
-    """Spreads the slow tests evenly, since pytest-xdist hands out long runs of neighbours.
+    """Spreads the tests of each slow file evenly, since pytest-xdist hands out long runs of neighbours.
 
     So a file's tests don't follow each other, and what they share is of the scope `session`."""
-    places = {item: (at + 0.5) / len(group) for group in _slow_and_quick(items) for at, item in enumerate(group)}
+    quick = [it for it in items if it.path.stem not in SLOW]
+    places = {item: (at + 0.5) / len(quick) for at, item in enumerate(quick)}
+    for name in SLOW:
+        group = [it for it in items if it.path.stem == name]
+        places |= {item: (at + 0.5) / len(group) * END_OF_SLOW for at, item in enumerate(group)}
     items.sort(key=lambda it: places[it])
-
-
-def _slow_and_quick(items: list[pytest.Item]) -> tuple[list[pytest.Item], list[pytest.Item]]:
-    return [it for it in items if it.path.stem in SLOW], [it for it in items if it.path.stem not in SLOW]
 
 
 @dataclass(frozen=True)

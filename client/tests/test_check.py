@@ -205,10 +205,10 @@ def test_what_is_heard_is_what_a_broadcast_reaches(priority: int, tmp_path: Path
 
 
 def test_an_app_of_more_hosts_than_can_be_approved_at_once(tmp_path: Path) -> None:
-    rows = [", ".join(f'{{ scheme = "https", host = "h{number}.example" }}' for number in range(at, at + 64)) for at in range(0, 257, 64)]
+    rows = [", ".join(f'{{ scheme = "https", host = "h{number}.example" }}' for number in range(at, min(at + 64, 257))) for at in range(0, 257, 64)]
     links = [filter_of(VIEW, it, categories=(DEFAULT, BROWSABLE)) for it in rows]
     found = [it for it in Checked(tmp_path, device(BROWSER), app(component(filters=links))).findings() if it.rule == "link"]
-    assert len(found) == 320
+    assert len(found) == 257
     assert all("once approved: opens com.new/.C" in it.message for it in found)
 
 

@@ -221,7 +221,7 @@ def test_what_is_too_long_is_refused_and_not_taken_for_another_server() -> None:
     with served(ORDERS) as port, Device.connect(f"http://127.0.0.1:{port}", ORDERS) as device:
         for size in (66_000, 200_000, 3_000_000):
             with pytest.raises(Refusal, match="more than 65,536 bytes"):
-                device.system.install(f'package = "com.long"\nlong = "{"x" * size}"\n')
+                device.system.install(f"package = 'com.long'\nlong = '{'x' * size}'\n")
         assert device.system.status().history == 0
 
 
