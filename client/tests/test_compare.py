@@ -591,7 +591,7 @@ def test_what_lists_say() -> None:
 
 def test_the_command_by_the_program_adb(phone: StandIn, tmp_path: Path) -> None:
     words = ("compare", "--suite", "everyday", "--serial", phone.serial, "--device", str(DEVICE), "--adb", str(ADB))
-    with resident(phone, tmp_path / "socket") as variables:
+    with resident(phone) as variables:
         ran = run_python("-m", "amctl", *words, "--yes", cwd=tmp_path, **variables)
         unsaid = run_python("-m", "amctl", *words, cwd=tmp_path, **variables)
         listed = run_python("-m", "amctl", *words, "--list", cwd=tmp_path)

@@ -94,7 +94,7 @@ def test_am_takes_the_file(phone: StandIn, tmp_path: Path) -> None:
 
 
 def test_the_command_by_the_program_adb(phone: StandIn, tmp_path: Path) -> None:
-    with resident(phone, tmp_path / "socket") as environment:
+    with resident(phone) as environment:
         folder = tmp_path / "bin"
         folder.mkdir()
         shutil.copy(ADB, folder / "adb")
