@@ -1,4 +1,5 @@
 """The commands, in adb's words if adb has them."""
+import copy
 import difflib
 import os
 import re
@@ -448,10 +449,11 @@ def adb(words_of_adb: Optional[List[str]] = typer.Argument(None, metavar="WORDS.
 
 def main(argv: Sequence[str] | None = None) -> int:
     """Runs a command. The status is 0, 1 for a refusal, and 2 for words or files that can't be used."""
+    given = sys.argv[1:] if argv is None else argv
     try:
-        _check_words(sys.argv[1:] if argv is None else argv)
+        _check_words(given)
         # a command that has a status of its own returns it
-        status = app(args=argv, prog_name="amctl", standalone_mode=False)
+        status = _with_one(given)(args=list(given), prog_name="amctl", standalone_mode=False)
         sys.stdout.flush()
         return status if isinstance(status, int) else 0
     except Refusal as refused:
@@ -470,6 +472,14 @@ def main(argv: Sequence[str] | None = None) -> int:
         if fault.filename is None:
             _drop_output()
         return _failed(words.os_fault(fault.strerror or str(fault), fault.filename), WRONG_WORDS)
+
+
+def _with_one(given: Sequence[str]) -> typer.Typer:
+    """The commands, or the asked one alone: typer makes the options of all that it is given, which is a seventh of a start."""
+    asked = [it for it in app.registered_commands if it.callback and [it.name or it.callback.__name__] == list(given[:1])]
+    one = copy.copy(app)
+    one.registered_commands = asked or app.registered_commands
+    return one
 
 
 def _check_words(given: Sequence[str]) -> None:
